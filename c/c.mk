@@ -13,6 +13,8 @@
 #     make instructions-check   # tests the processor's SHA instructions beside their definitions
 #     make speed                # times the library, each build, and EARLIER=libyezdopin.so
 #     make instructions         # counts a digest's instructions, with ARCH=aarch64
+#     make bare                 # builds out/bare/libyezdopin.a, for programs without a system
+#     make bare-check           # tests it, by a program without a C library too
 #     make install              # installs the library below PREFIX=/usr/local, in DESTDIR=
 #     make uninstall            # removes what `make install` installed
 #
@@ -32,7 +34,8 @@ $(OBJECTS): $(OUT)/%.o: generated/%.S
 
 # The library's C, without tables for unwinding, and with a section for each function, as the builds
 # are.
-COMPILED = $(CC) -O2 -fPIC -fno-asynchronous-unwind-tables -ffunction-sections $(STRICT)
+COMPILED = $(CC) $(CPPFLAGS) $(LIBRARY_CFLAGS) -fPIC -fno-lto -fno-asynchronous-unwind-tables \
+    -ffunction-sections $(STRICT)
 $(OUT)/dispatch.o $(OUT)/processor.o $(OUT)/status.o: $(OUT)/%.o: c/%.c c/processor.h $(HEADER)
 	mkdir -p $(@D)
 	$(COMPILED) -c $< -o $@
@@ -78,7 +81,7 @@ endif
 
 # $(call shared,ARCHIVE): the shared library of an archive.
 define shared
-	$(CC) $(LDFLAGS) -shared -nostartfiles -o $@ \
+	$(CC) $(LIBRARY_CFLAGS) $(LDFLAGS) -shared -nostartfiles -o $@ \
 	    -Wl,--whole-archive $(1) -Wl,--no-whole-archive -Wl,-soname,$(SONAME) \
 	    -Wl,--version-script=c/exports.map -Wl,-z,relro,-z,now,-z,noexecstack \
 	    -Wl,--no-undefined -lc
@@ -129,7 +132,7 @@ verifications: $(TESTED) $(VERIFICATIONS)
 	    -o $$room/verifications && $(RUN) $$room/verifications $(VERIFICATIONS))
 
 ifneq ($(BUILDS),$(ARCHIVE))
-# What the dispatcher chooses, as README.md's table has it; that the calls of the build for
+# What the dispatcher chooses, as PLATFORMS.md's table has it; that the calls of the build for
 # x86-64-v2 have no newer instructions; and where the kit's builds are, which have all calls, that
 # these are one library.
 builds: $(ARCHIVE_V2)
@@ -138,7 +141,7 @@ builds: $(ARCHIVE_V2)
 	        && $(OUT)/dispatch$$it || exit 1; \
 	done
 	$(OUT)/dispatch table >$(OUT)/dispatch.table
-	sed -n '/^| Calls |/,/^$$/ { /^$$/d; p }' c/README.md | diff - $(OUT)/dispatch.table
+	sed -n '/^| Calls |/,/^$$/ { /^$$/d; p }' c/PLATFORMS.md | diff - $(OUT)/dispatch.table
 	objdump -d $(ARCHIVE_V2) >$(OUT)/v2/archive.text
 	! grep -E '%ymm|\s(v[a-z0-9]+|andn|bls[a-z]+|bzhi|lzcnt|movbe|mulx|p(dep|ext)|rorx|s[ah][lr]x)\s' \
 	    $(OUT)/v2/archive.text
@@ -174,6 +177,14 @@ define SUPPORTED
 endef
 endif
 
+ifeq ($(ARCH),x86_64)
+# On a 32-bit processor the header says so, before a linker would.
+define REFUSED
+	$(CC) -m32 -ffreestanding -Ic/include -fsyntax-only -x c $(HEADER) 2>&1 | \
+	    grep -q 'yezdopin is for 64-bit processors'
+endef
+endif
+
 # The header as C99 and C++11, before <cpuid.h> and behind it, and its manual page.
 header:
 	for it in $(HEADER_PLACES); do \
@@ -183,7 +194,9 @@ header:
 	    $(CXX) -std=c++11 $(HEADER_FLAGS) -Wold-style-cast $$it -x c++ c/test/header.c || exit 1; \
 	done
 	$(SUPPORTED)
-	c/test/manual $(HEADER) c/man/yezdopin.3
+	$(REFUSED)
+	$(call without,$(PYTHON),the manual page beside the header)
+	$(call with,$(PYTHON),c/test/manual $(HEADER) c/man/yezdopin.3)
 
 # What is installed under the umask of a careful user, which all may read, and the example, built
 # against it by hand, so that no pkg-config is needed.
@@ -209,7 +222,7 @@ moved: $(ARCHIVE)
 # of a field or a token, as `yz_jws_sign` does, and of `yz_password_hash_salt`, which makes letters
 # of random bytes: a password hash's text, with its salt, is no secret, and no length is. Nor is a
 # time, which `yz_totp` and `yz_totp_find` divide. `write` and `find_hotp_counted` make digits of
-# four bytes of a tag: README.md says so.
+# four bytes of a tag: CALLS.md says so.
 PUBLIC = count_before|put_(base64|number)|yz_password_hash_salt|code_slice|yz_(jws_sign|totp)
 OF_DIGITS = otp(\.|::)(write|find_hotp_counted)
 of_secrets = awk '/^[0-9a-f]+ </ { open = /$(PUBLIC)|$(OF_DIGITS)/ } !open' \
@@ -328,6 +341,43 @@ instructions: $(ARCHIVE)
 	@test $(ARCH) = aarch64 || { echo 'make: instructions wants ARCH=aarch64' >&2; exit 1; }
 	@HOSTCC='$(HOSTCC)' CC='$(CC)' NM='$(NM)' c/speed/instructions/count '$(EMULATOR)' $(ARCHIVE)
 
+# One build without the dispatcher, which asks no processor and reads no environment: an object for
+# each function, so that a static program takes only what it calls (docs/EMBEDDED.md).
+# SHA_INSTRUCTIONS=1 is for processors that have them.
+BARE = $(OUT)/bare
+BARE_ARCHIVE = $(BARE)/libyezdopin.a
+BARE_LEAST = 40960
+SHA_INSTRUCTIONS = 0
+BARE_C = $(CC) $(CPPFLAGS) $(LIBRARY_CFLAGS) -ffreestanding -ffunction-sections $(STRICT) \
+    -DFORCED=2 -DINSTRUCTIONS=$(SHA_INSTRUCTIONS)
+
+bare: $(BARE_ARCHIVE)
+
+$(BARE_ARCHIVE): $(firstword $(TEXTS)) c/bare/split.awk c/processor.c c/processor.h c/status.c \
+    $(HEADER)
+	rm -rf $(BARE)
+	mkdir -p $(BARE)/parts
+	$(CC) -E $< -o $(BARE)/text.s
+	awk -v folder=$(BARE)/parts -f c/bare/split.awk $(BARE)/text.s $(BARE)/text.s
+	for it in $(BARE)/parts/*.s; do $(CC) -c $$it -o $${it%.s}.o || exit 1; done
+	for it in processor status; do $(BARE_C) -c c/$$it.c -o $(BARE)/parts/$$it.o || exit 1; done
+	$(AR) rcsD $@ $(BARE)/parts/*.o
+
+# The calls of the header are there, and nothing is asked for but three functions of memory; each
+# vector; and a whole program without a C library, which is small.
+bare-check: $(BARE_ARCHIVE) $(OUT)/names
+	$(NM) --defined-only -g $(BARE_ARCHIVE) | awk 'NF == 3 { print $$3 }' | sort -u >$(BARE)/defined
+	$(NM) -u $(BARE_ARCHIVE) | awk 'NF == 2 && $$1 == "U" { print $$2 }' | sort -u | \
+	    comm -23 - $(BARE)/defined | xargs | grep -qx 'memcpy memmove memset'
+	test -z "$$(sort $(OUT)/names | comm -23 - $(BARE)/defined)"
+	$(CC) $(CFLAGS) $(STRICT) c/test/vectors.c $(BARE_ARCHIVE) -o $(BARE)/vectors
+	$(RUN) $(BARE)/vectors $(VECTORS)
+	$(CC) -O2 -ffreestanding -nostdlib -static $(STRICT) c/test/bare.c $(BARE_ARCHIVE) \
+	    -o $(BARE)/program
+	$(RUN) $(BARE)/program
+	$(SIZE) $(BARE)/program | awk 'NR == 2 { print $$4 " bytes in a program without a C library"; \
+	    exit $$4 > $(BARE_LEAST) }'
+
 # A folder as yezdopin.pc has it: by the prefix where it is below it, so that pkg-config can be told
 # another prefix.
 by_prefix = $(subst ^,,$(subst ^$(PREFIX)/,$${prefix}/,^$(1)))
@@ -351,9 +401,9 @@ install: all
 	        >"$(DESTDIR)$(CMAKEDIR)/$$name.cmake" && \
 	    chmod 644 "$(DESTDIR)$(CMAKEDIR)/$$name.cmake" || exit 1; \
 	done
-	$(INSTALL) -m 644 c/README.md LICENSE "$(DESTDIR)$(DOCDIR)"
-	# Nothing that the page links to is installed beside it.
-	sed -i 's/\[\([^][]*\)\](\([^):]*\))/\1/g' "$(DESTDIR)$(DOCDIR)/README.md"
+	$(INSTALL) -m 644 c/README.md c/CALLS.md LICENSE "$(DESTDIR)$(DOCDIR)"
+	# Nothing that the pages link to is installed beside them.
+	sed -i 's/\[\([^][]*\)\](\([^):]*\))/\1/g' "$(DESTDIR)$(DOCDIR)"/*.md
 	$(INSTALL) -m 644 c/examples/sign.c "$(DESTDIR)$(DOCDIR)/examples"
 	sed 's|@version@|$(VERSION)|' c/man/yezdopin.3 >"$(DESTDIR)$(MANDIR)/man3/yezdopin.3"
 	chmod 644 "$(DESTDIR)$(MANDIR)/man3/yezdopin.3"
@@ -379,4 +429,4 @@ uninstall:
 	@echo 'libyezdopin is removed from $(DESTDIR)$(PREFIX)'
 
 .PHONY: test verifications builds sanitized header installed moved exports constant-time traces \
-    instructions-check speed speed-program instructions install uninstall
+    instructions-check speed speed-program instructions bare bare-check install uninstall

@@ -8,7 +8,7 @@
  * stopped.
  *
  * The build for x86-64-v2 takes the SHA instructions where processor.c finds them. They have SSE's
- * encodings alone, beside which code with AVX is slow on some processors. README.md has a table of
+ * encodings alone, beside which code with AVX is slow on some processors. PLATFORMS.md has a table of
  * which call goes where, and `make builds` compares both. */
 #include "processor.h"
 

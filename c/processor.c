@@ -6,6 +6,7 @@
  * or BMI runs `lzcnt` and `tzcnt` as `bsr` and `bsf`, which give other numbers: a call may then
  * read or write outside its buffers. So each set is asked for by its own bit (test/dispatch.c). */
 #include "processor.h"
+#ifndef FORCED /* what is forced asks neither a processor nor a system */
 #if defined(__x86_64__)
 #ifndef bit_AVX2 /* test/dispatch.c has included it, which gcc before 11 can't do twice */
 #include <cpuid.h>
@@ -16,9 +17,10 @@
 #ifndef _WIN32
 #include <stdlib.h>
 #endif
+#endif
 
-/* In an archive for tests one build answers on every processor: FORCED is 2 or 3, and INSTRUCTIONS
- * is 1 where its kernels over the SHA instructions answer. */
+/* In an archive for tests, and in that of `make bare`, one build answers on every processor: FORCED
+ * is 2 or 3, and INSTRUCTIONS is 1 where its kernels over the SHA instructions answer. */
 #ifndef INSTRUCTIONS
 #define INSTRUCTIONS 0
 #endif

@@ -4,10 +4,11 @@
  * What statuses say. It is C beside the proved crate, and no proof covers it. */
 #include "yezdopin.h"
 
-/* The header's words for each status, which tests/statuses.py compares. They are rows of bytes and
+/* The header's words for each status, which tools/lists.py writes. They are rows of bytes and
  * no pointers, which a loader would have to write to; and a row's length is a power of two, so that
  * its place needs no multiplication (`make exports`). */
 static const char TEXTS[][64] = {
+    /* statuses: made by tools/lists.py */
     [YZ_OK] = "success",
     [YZ_UNKNOWN_ALGORITHM] = "the number names no algorithm or scheme of this call",
     [YZ_UNKNOWN_CONTEXT] = "the bytes can be no context or key",
@@ -17,6 +18,7 @@ static const char TEXTS[][64] = {
     [YZ_TOO_MANY_ITERATIONS] = "the text has more iterations than the caller takes",
     [YZ_BAD_SALT] = "a new password hash can't have the salt",
     [YZ_UNSPECIFIED] = "an input is out of its limits, or the verification failed",
+    /* /statuses */
 };
 
 const char *yz_status_text(yz_status status) {

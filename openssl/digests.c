@@ -3,16 +3,11 @@
  * Digests. A message of at most SHORT_LEN bytes is kept until its end and digested by one call of
  * the library, which is faster than the same in pieces: a context is plain bytes that each call of
  * the library reads and writes again. */
+#include "../c/rows.h"
 #include "provider.h"
 #include <string.h>
 
 #define SHORT_LEN 128
-
-#define SHA1_NAMES "SHA1:SHA-1:SSL3-SHA1:1.3.14.3.2.26"
-#define SHA256_NAMES "SHA2-256:SHA-256:SHA256:2.16.840.1.101.3.4.2.1"
-#define SHA384_NAMES "SHA2-384:SHA-384:SHA384:2.16.840.1.101.3.4.2.2"
-#define SHA512_NAMES "SHA2-512:SHA-512:SHA512:2.16.840.1.101.3.4.2.3"
-#define SHA512_256_NAMES "SHA2-512/256:SHA-512/256:SHA512-256:2.16.840.1.101.3.4.2.6"
 
 typedef struct {
     uint32_t algorithm;
@@ -116,7 +111,7 @@ static const OSSL_PARAM *gettable(void *self)
     return names;
 }
 
-#define DIGEST(NAME) \
+#define DIGEST(NAME, ...) \
     static void *new_##NAME(void *self) \
     { \
         (void)self; \
@@ -137,17 +132,10 @@ static const OSSL_PARAM *gettable(void *self)
         ENTRY(DIGEST_GET_PARAMS, digest_get_params, get_params_##NAME), \
         LAST_ENTRY, \
     };
-DIGEST(SHA1)
-DIGEST(SHA256)
-DIGEST(SHA384)
-DIGEST(SHA512)
-DIGEST(SHA512_256)
+EACH_ALGORITHM(DIGEST)
 
-#define OFFERED(NAME) {NAME##_NAMES, "provider=yezdopin", calls_##NAME, NULL}
-const OSSL_ALGORITHM digest_algorithms[] = {
-    OFFERED(SHA1), OFFERED(SHA256), OFFERED(SHA384), OFFERED(SHA512), OFFERED(SHA512_256),
-    {NULL, NULL, NULL, NULL},
-};
+#define OFFERED(NAME, title, name, names) {names, "provider=yezdopin", calls_##NAME, NULL},
+const OSSL_ALGORITHM digest_algorithms[] = {EACH_ALGORITHM(OFFERED) {NULL, NULL, NULL, NULL}};
 
 /* Whether a name is one of a list that is separated by colons. */
 int is_among(const char *name, const char *names)
@@ -160,18 +148,19 @@ int is_among(const char *name, const char *names)
     }
 }
 
+#define NAMED(NAME, title, name, names) {YZ_##NAME, names},
 /* The library's number of a digest by one of its names, or 0. */
 uint32_t algorithm_of_name(const char *name)
 {
     static const struct {
         uint32_t algorithm;
         const char *names;
-    } digests[] = {
-        {YZ_SHA256, SHA256_NAMES}, {YZ_SHA1, SHA1_NAMES}, {YZ_SHA384, SHA384_NAMES},
-        {YZ_SHA512, SHA512_NAMES}, {YZ_SHA512_256, SHA512_256_NAMES},
-    };
-    for (size_t i = 0; i < sizeof digests / sizeof digests[0]; i++) {
-        if (is_among(name, digests[i].names)) return digests[i].algorithm;
+    } digests[] = {EACH_ALGORITHM(NAMED)};
+    const size_t count = sizeof digests / sizeof digests[0];
+    /* SHA-256 is tried first: most callers name it. */
+    for (size_t i = 0; i < count; i++) {
+        size_t at = (i + YZ_SHA256 - 1) % count;
+        if (is_among(name, digests[at].names)) return digests[at].algorithm;
     }
     return 0;
 }

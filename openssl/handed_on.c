@@ -18,6 +18,7 @@
  *
  * Another provider is any that isn't this one (`provider!=yezdopin`). If none serves, the call is
  * refused, and so it is where the configuration of this module says `hand_on = no`. */
+#include "../c/rows.h"
 #include "provider.h"
 
 #define NOT_OURS "provider!=yezdopin"
@@ -34,6 +35,20 @@ int library_derives(const chosen_digest *digest, uint64_t iterations)
     return digest->algorithm != 0 && iterations <= UINT32_MAX;
 }
 
+#define NAMED(NAME, title, name, ...) {YZ_##NAME, name},
+/* The library's number of such a digest, by whichever name it was found, or 0. */
+static uint32_t keyed_algorithm_of(const EVP_MD *found)
+{
+    static const struct {
+        uint32_t algorithm;
+        const char *name;
+    } keyed[] = {EACH_KEYED(NAMED)};
+    for (size_t i = 0; i < sizeof keyed / sizeof keyed[0]; i++) {
+        if (EVP_MD_is_a(found, keyed[i].name)) return keyed[i].algorithm;
+    }
+    return 0;
+}
+
 /* Finds a digest that isn't known by name, or has properties, in the application's providers.
  * Another name of a digest of the library is found here too. */
 static int find_digest(const provider *reporter, chosen_digest *digest)
@@ -44,11 +59,7 @@ static int find_digest(const provider *reporter, chosen_digest *digest)
     if (found == NULL) return refuse(reporter, PROV_R_INVALID_DIGEST);
     digest->algorithm = 0;
     if (digest->properties.len == 0) {
-        digest->algorithm = EVP_MD_is_a(found, "SHA2-256")   ? YZ_SHA256
-                            : EVP_MD_is_a(found, "SHA2-384") ? YZ_SHA384
-                            : EVP_MD_is_a(found, "SHA2-512") ? YZ_SHA512
-                            : EVP_MD_is_a(found, "SHA1")     ? YZ_SHA1
-                                                             : 0;
+        digest->algorithm = keyed_algorithm_of(found);
     }
     digest->output_len = (size_t)EVP_MD_get_size(found);
     digest->block_len = (size_t)EVP_MD_get_block_size(found);
@@ -63,7 +74,7 @@ static int resolve(const provider *reporter, chosen_digest *digest)
     if (algorithm == 0 || digest->properties.len != 0) {
         if (!find_digest(reporter, digest)) return 0;
     } else {
-        digest->algorithm = algorithm == YZ_SHA512_256 ? 0 : algorithm;
+        digest->algorithm = IS_KEYED(algorithm) ? algorithm : 0;
         digest->output_len = yz_output_len(algorithm);
         digest->block_len = yz_block_len(algorithm);
     }

@@ -26,7 +26,7 @@ COUNTED = $(OUT)/openssl/counted/yezdopin.so
 SANITIZED = $(OUT)/openssl/sanitized/yezdopin.so
 PROVIDER_SOURCES = $(sort $(wildcard openssl/*.c))
 PROVIDER_MAP = openssl/exports.map
-PROVIDER_NEEDS = $(PROVIDER_SOURCES) openssl/provider.h $(HEADER) $(PROVIDER_MAP) $(ARCHIVE)
+PROVIDER_NEEDS = $(PROVIDER_SOURCES) openssl/provider.h c/rows.h $(HEADER) $(PROVIDER_MAP) $(ARCHIVE)
 PROVIDER_LINKS = -shared -Wl,--version-script=$(PROVIDER_MAP) -Wl,-z,relro,-z,now,-z,noexecstack \
     -Wl,--no-undefined $(ARCHIVE) -lcrypto
 # The calls that the counted build counts: all that the provider makes.
@@ -37,7 +37,7 @@ openssl: $(PROVIDER)
 
 $(PROVIDER): $(PROVIDER_NEEDS)
 	mkdir -p $(@D)
-	$(CC) $(CFLAGS) -ffile-prefix-map='$(CURDIR)'=. $(STRICT) -fPIC $(PROVIDER_SOURCES) $(LDFLAGS) \
+	$(CC) $(CPPFLAGS) $(CFLAGS) -ffile-prefix-map='$(CURDIR)'=. $(STRICT) -fPIC $(PROVIDER_SOURCES) $(LDFLAGS) \
 	    $(PROVIDER_LINKS) -o $@
 
 $(COUNTED): $(PROVIDER_NEEDS) openssl/test/count.c
@@ -53,7 +53,7 @@ $(SANITIZED): $(PROVIDER_NEEDS)
 # The tests, each of which takes the folder of the module.
 PROVIDER_TESTS = agree orders refused_calls reuse words verifications properties refused_memory \
     wiped
-PROVIDER_TEST_HEADERS = openssl/test/agree.h openssl/test/single.h c/test/table.h
+PROVIDER_TEST_HEADERS = openssl/test/agree.h openssl/test/single.h c/test/table.h c/rows.h
 SANITIZERS = -fsanitize=address,undefined -fno-sanitize-recover=all
 # That libcrypto keeps its tables until the program has ended is no leak.
 LEAKS = --leak-check=full --show-leak-kinds=all --errors-for-leak-kinds=all --error-exitcode=9

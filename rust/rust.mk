@@ -18,7 +18,7 @@ rust: $(ARCHIVE) $(TABLE_HERE)
 DEBIAN_CRATES ?= /usr/share/cargo/registry
 rustcrypto: $(ARCHIVE) $(VERIFICATIONS)
 	rm -rf $(OUT)/rustcrypto && mkdir -p $(OUT)/rustcrypto
-	cp -R rust $(OUT)/rustcrypto/rust
+	cp -R rust vectors $(OUT)/rustcrypto
 	cd $(OUT)/rustcrypto/rust/rustcrypto && YEZDOPIN_LIB_DIR="$(WHOLE_OUT)" \
 	    VERIFICATIONS="$(WHOLE_OUT)/verifications.txt" \
 	    CARGO_TARGET_DIR="$(WHOLE_OUT)/cargo_rustcrypto" $(CARGO) test --offline --quiet \

@@ -33,43 +33,12 @@ sys.dont_write_bytecode = True
 sys.path.append(str(pathlib.Path(__file__).resolve().parent / "lib"))
 import counted
 from run import ROOT, differing
+from trees import ENTRIES, PATHS, PROOFS, ROOTS
 
 # What a status of the C library is called in a line: YZ_OK, and YZ_UNSPECIFIED.
 VERDICTS = {0: "true", 8: "false"}
 HASH_LEN, MOST_HASHES = 32, 65
 PAGE = ROOT / "docs/MERKLE.md"
-
-# The entries, roots and paths of Certificate Transparency's merkle_verifier_test.go (Debian's
-# golang-github-google-certificate-transparency-dev); the first root is that of no entries.
-ENTRIES = ["", "00", "10", "2021", "3031", "40414243", "5051525354555657"]
-ENTRIES += ["606162636465666768696a6b6c6d6e6f"]
-ROOTS = """
-e3b0c44298fc1c149afbf4c8996fb92427ae41e4649b934ca495991b7852b855
-6e340b9cffb37a989ca544e6bb780a2c78901d3fb33738768511a30617afa01d
-fac54203e7cc696cf0dfcb42c92a1d9dbaf70ad9e621f4bd8d98662f00e3c125
-aeb6bcfe274b70a14fb067a5e5578264db0fa9b51af5e0ba159158f329e06e77
-d37ee418976dd95753c1c73862b9398fa2a2cf9b4ff0fdfe8b30cd95209614b7
-4e3bbb1f7b478dcfe71fb631631519a3bca12c9aefca1612bfce4c13a86264d4
-76e67dadbcdf1e10e1b74ddc608abd2f98dfb16fbce75277b5232a127f2087ef
-ddb89be403809e325750d3d263cd78929c2942b7942a34b77e122c9594a74c8c
-5dc9da79a70659a9ad559cb701ded9a2ab9d823aad2f4960cfe370eff4604328
-""".split()
-# Nodes of that tree of eight entries.
-NODES = {
-    "b": "96a296d224f285c67bee93c30f8a309157f0daa35dc5b87e410b78630a09cfc7",
-    "cd": "5f083f0a1a33ca076a95279832580db3e0ef4584bdff1f54c8a360f50de3031e",
-    "efgh": "6b47aaf29ee3c2af9af889bc1fb9254dabd31177f16232dd6aab035ca39bf6e4",
-    "e": "bc1a0643b12e4d2d7c77918f44e0f4f79a838b6cf9ec5b5c283e1f4d88599e6b",
-    "ef": "0ebc5d3437fbe2db158b9f126a1d118e308181031d0a949f8dededebc558ef6a",
-    "gh": "ca854ea128ed050b41b35ffc1b87b8eb2bde461e9e3b5596ece6b9d5975a0ae0",
-    "abcd": "d37ee418976dd95753c1c73862b9398fa2a2cf9b4ff0fdfe8b30cd95209614b7",
-    "ab": "fac54203e7cc696cf0dfcb42c92a1d9dbaf70ad9e621f4bd8d98662f00e3c125",
-    "a": "6e340b9cffb37a989ca544e6bb780a2c78901d3fb33738768511a30617afa01d",
-}
-# The index, the size and the path of an entry, and the same of a beginning.
-PATHS = [(0, 8, "b cd efgh"), (5, 8, "e gh abcd"), (2, 3, "ab"), (1, 5, "a cd e")]
-PROOFS = [(1, 8, "b cd efgh"), (6, 8, "ef gh abcd"), (2, 5, "cd e")]
-
 
 # --- RFC 9162, section 2.1 ---
 
@@ -192,21 +161,18 @@ def consistent(first_size, first, second_size, second, path):
 
 def are_vectors():
     """Certificate Transparency's roots, paths and proofs are made and accepted."""
-    entries = [bytes.fromhex(it) for it in ENTRIES]
-    roots = [bytes.fromhex(it) for it in ROOTS]
+    entries, roots = ENTRIES, ROOTS
     wanted = []
     for size, root in enumerate(roots):
         wanted.append((f"root {listed(entries[:size])}".strip(), root.hex()))
-    for index, size, names in PATHS:
-        nodes = [bytes.fromhex(NODES[name]) for name in names.split()]
+    for index, size, nodes in PATHS:
         line, answer = include(leaf_hash(entries[index]), index, size, nodes, roots[size])
-        wanted += [(line, "true"), (f"path {index} {listed(entries[:size])}", words(nodes))]
+        wanted += [(line, "true"), (f"path {index} {listed(entries[:size])}", words(nodes) or "-")]
         if answer != "true":
             raise ValueError(f"the reading refuses a vector: {line}")
-    for first, size, names in PROOFS:
-        nodes = [bytes.fromhex(NODES[name]) for name in names.split()]
+    for first, size, nodes in PROOFS:
         line, answer = consistent(first, roots[first], size, roots[size], nodes)
-        wanted += [(line, "true"), (f"proof {first} {listed(entries[:size])}", words(nodes))]
+        wanted += [(line, "true"), (f"proof {first} {listed(entries[:size])}", words(nodes) or "-")]
         if answer != "true":
             raise ValueError(f"the reading refuses a vector: {line}")
     return wanted
@@ -454,11 +420,11 @@ def knows_entries(room):
     subprocess.run(command, input=example("c"), text=True, check=True)
     is_logged = ctypes.CDLL(made).is_logged
     is_logged.restype = ctypes.c_bool
-    for index, size, names in PATHS:
+    for index, size, nodes in PATHS:
         index, size = ctypes.c_uint64(index), ctypes.c_uint64(size)
-        values = hash_array([bytes.fromhex(NODES[name]) for name in names.split()])
-        given = index, size, *values, bytes.fromhex(ROOTS[size.value])
-        entry = bytes.fromhex(ENTRIES[index.value])
+        values = hash_array(nodes)
+        given = index, size, *values, ROOTS[size.value]
+        entry = ENTRIES[index.value]
         for said in (entry, entry + b"\0"):
             answer = is_logged(said, ctypes.c_size_t(len(said)), *given)
             if answer != (said == entry):

@@ -4,8 +4,8 @@
  * Digests (FIPS 180-4), tags (HMAC, RFC 2104), derived keys (HKDF, RFC 5869, also by the labels of
  * TLS 1.3, RFC 8446; PBKDF2, RFC 2898), password hashes, Merkle trees of transparency logs (RFC
  * 9162), signed tokens (JWS, RFC 7515) and one-time passwords (HOTP, RFC 4226; TOTP, RFC 6238),
- * each call proved to give the standard's bytes. README.md, installed as
- * share/doc/yezdopin/README.md, says what is proved and what is not. All lengths are in bytes.
+ * each call proved to give the standard's bytes. CALLS.md, installed as
+ * share/doc/yezdopin/CALLS.md, says what is proved and what is not. All lengths are in bytes.
  *
  * Each call returns whatever it is given. Calls allocate nothing, set no errno, and keep no state
  * but two bytes that remember what the processor has: on one with x86-64-v3 (AVX2) or with SHA
@@ -38,11 +38,15 @@
 #include <intrin.h>
 #endif
 
+#if SIZE_MAX < UINT64_MAX
+#error "yezdopin is for 64-bit processors"
+#endif
+
 /* The version of this header. The major number is that of the shared library's name, and rises
  * where a caller must be compiled again: with a call or the layout of a context or a key.
  * YZ_VERSION has all three in one number, 16 bits, 8 and 8, which `#if` can compare. */
 #define YZ_VERSION_MAJOR 0
-#define YZ_VERSION_MINOR 1
+#define YZ_VERSION_MINOR 2
 #define YZ_VERSION_PATCH 0
 #define YZ_VERSION (YZ_VERSION_MAJOR * 0x10000u + YZ_VERSION_MINOR * 0x100u + YZ_VERSION_PATCH)
 
@@ -61,16 +65,19 @@ extern "C" {
 
 /* The algorithms, for `uint32_t algorithm`. */
 enum {
+    /* algorithms: made by tools/lists.py */
     YZ_SHA1 = 1, /* broken: for what must still read old data */
     YZ_SHA256 = 2,
     YZ_SHA384 = 3,
     YZ_SHA512 = 4,
     YZ_SHA512_256 = 5, /* digests alone */
+    /* /algorithms */
 };
 
 /* What a call answers, in the words of yz_status_text. */
 typedef int32_t yz_status;
 enum {
+    /* statuses: made by tools/lists.py */
     YZ_OK = 0,                  /* success */
     YZ_UNKNOWN_ALGORITHM = 1,   /* the number names no algorithm or scheme of this call */
     YZ_UNKNOWN_CONTEXT = 2,     /* the bytes can be no context or key */
@@ -80,9 +87,11 @@ enum {
     YZ_TOO_MANY_ITERATIONS = 6, /* the text has more iterations than the caller takes */
     YZ_BAD_SALT = 7,            /* a new password hash can't have the salt */
     YZ_UNSPECIFIED = 8,         /* an input is out of its limits, or the verification failed */
+    /* /statuses */
 };
 
 /* Bytes of a digest or a tag, and of a block. */
+/* lengths: made by tools/lists.py */
 #define YZ_SHA1_OUTPUT_LEN 20
 #define YZ_SHA256_OUTPUT_LEN 32
 #define YZ_SHA384_OUTPUT_LEN 48
@@ -95,6 +104,7 @@ enum {
 #define YZ_SHA512_BLOCK_LEN 128
 #define YZ_SHA512_256_BLOCK_LEN 128
 #define YZ_MAX_BLOCK_LEN 128
+/* /lengths */
 
 /* The most bytes of an output of HKDF (RFC 5869, 2.3) and of PBKDF2 (RFC 2898, 5.2), over a digest
  * of `output_len` bytes. */
@@ -283,6 +293,7 @@ yz_status yz_pbkdf2_verify(uint32_t algorithm, uint32_t iterations,
  * PostgreSQL does: no call does so here. */
 #define YZ_MAX_PASSWORD_HASH_LEN 1024
 enum {
+    /* schemes: made by tools/lists.py */
     YZ_DJANGO_SHA256 = 1,
     YZ_DJANGO_SHA1 = 2,
     YZ_WERKZEUG_SHA256 = 3,
@@ -295,6 +306,7 @@ enum {
     YZ_PASSLIB_SHA512 = 10,
     YZ_POSTGRESQL = 11,
     YZ_WERKZEUG_SHA1 = 12,
+    /* /schemes */
 };
 
 /* Tests a password against the text of a hash, of whichever scheme. Answers YZ_OK exactly where the
@@ -399,7 +411,7 @@ yz_status yz_merkle_consistency_path(const yz_merkle_hash *leaves, size_t count,
                                      size_t *path_count) YZ_MUST_CHECK;
 
 /* Signed tokens: JSON Web Signatures in the compact form (RFC 7515), of which JSON Web Tokens are
- * made, under HMAC (RFC 7518, 3.2). YZ_SHA256 is for HS256, YZ_SHA384 for HS384 and YZ_SHA512 for
+ * made, under HMAC (RFC 7518, 3.2). YZ_SHA256 is for HS256, and so are the others for HS384 and
  * HS512; any other number is answered by YZ_UNKNOWN_ALGORITHM. A key is for one of them, and has at
  * least yz_output_len of the algorithm bytes, or the call answers YZ_UNSPECIFIED.
  *

@@ -42,6 +42,7 @@ INLINE = re.compile(r"^static inline (bool (yz_\w+)\(void\)) \{", re.M)
 
 def blocks(header):
     """Each comment of the header that begins a line, with the declarations below it."""
+    header = re.sub(r"^ *\/\* (?:\w+: made by tools/lists.py|/\w+) \*/\n", "", header, flags=re.M)
     body = header.partition('extern "C" {')
     found = re.split(r"^(/\* .*?\*/)$", body[0] + body[2], flags=re.M | re.S)
     comments = [re.sub(r"^ ?/?\*/? ?|(?<= )\*/$|\*/$", "", it, flags=re.M) for it in found[1::2]]

@@ -6,6 +6,7 @@
  * run several messages or rounds of output side by side give the same in both, at both widths, and
  * each build verifies the other's paths of Merkle trees and signed tokens, and finds its one-time
  * passwords. Messages, pieces and builds are drawn at random, in each run the same. */
+#include "../rows.h"
 #include "yezdopin.h"
 #include <stdio.h>
 #include <stdlib.h>
@@ -358,13 +359,13 @@ int main(void) {
     static uint8_t message[MOST_MESSAGE];
     for (size_t i = 0; i < MOST_MESSAGE; i++) message[i] = (uint8_t)rand();
     for (int turn = 0; turn < MESSAGES; turn++) {
-        uint32_t n = 1 + (uint32_t)below(YZ_SHA512_256);
+        uint32_t n = 1 + (uint32_t)below(ALGORITHMS_COUNT);
         size_t len = below(MOST_MESSAGE);
         digest_in_pieces(n, message, len);
-        if (n != YZ_SHA512_256) tag_in_pieces(n, below(MOST_KEY), message, len);
+        if (IS_KEYED(n)) tag_in_pieces(n, below(MOST_KEY), message, len);
     }
     for (int turn = 0; turn < LISTS; turn++)
-        several(1 + (uint32_t)below(YZ_SHA512_256), message, below(MOST_COUNT + 1));
+        several(1 + (uint32_t)below(ALGORITHMS_COUNT), message, below(MOST_COUNT + 1));
     for (int turn = 0; turn < DERIVATIONS; turn++)
         derivations(1 + (uint32_t)below(YZ_SHA512), 1 + (uint32_t)below(MOST_ITERATIONS),
                     message, 1 + below(MOST_DERIVED));

@@ -3,6 +3,7 @@
  * reports each jump and each address that depends on one. What a call answers is made known before
  * it is looked at. The planted bodies, whose jumps or addresses do depend on secrets, must be
  * reported. */
+#include "../rows.h"
 #include "yezdopin.h"
 #include <stdio.h>
 #include <stdlib.h>
@@ -219,7 +220,7 @@ int main(void) {
     for (size_t i = 0; i < MOST; i++)
         its.key[i] = (uint8_t)(3 * i), its.message[i] = (uint8_t)(7 * i + 1);
     equality(&its);
-    for (uint32_t n = YZ_SHA1; n <= YZ_SHA512_256; n++)
+    for (uint32_t n = 1; n <= ALGORITHMS_COUNT; n++)
         digests(&its, n), digests_of_several(&its, n), outputs_are_secret(&its, n);
     for (uint32_t n = YZ_SHA1; n <= YZ_SHA512; n++)
         tags(&its, n), verified_tags(&its, n), expansions(&its, n), derivations(&its, n);

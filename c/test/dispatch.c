@@ -2,6 +2,7 @@
 /* Which build dispatch.c chooses, also on processors that lack a part of x86-64-v3 or the SHA
  * instructions, and that it hands on each argument and the status. The calls of the builds are
  * stand-ins here. With an argument it prints which build gets which call, as README.md has it. */
+#include "../rows.h"
 #include "yezdopin.h"
 #include <cpuid.h>
 #include <stdio.h>
@@ -61,9 +62,9 @@ static unsigned saved(void) {
 #include "../processor.c"
 #endif
 
+#define OUTPUT_LEN_OF(name, ...) YZ_##name##_OUTPUT_LEN,
 size_t yz_output_len(uint32_t algorithm) {
-    static const size_t LEN[] = {0, YZ_SHA1_OUTPUT_LEN, YZ_SHA256_OUTPUT_LEN, YZ_SHA384_OUTPUT_LEN,
-                                 YZ_SHA512_OUTPUT_LEN, YZ_SHA512_256_OUTPUT_LEN};
+    static const size_t LEN[] = {0, EACH_ALGORITHM(OUTPUT_LEN_OF)};
     return algorithm < sizeof LEN / sizeof *LEN ? LEN[algorithm] : 0;
 }
 
@@ -301,14 +302,16 @@ static void print_cell(size_t row, uint32_t n) {
     printf(" %sv%d |", takes_sha ? "SHA, " : "", builds[0]);
 }
 
+#define HEAD_OF(name, title, ...) " " title " |"
+#define LINE_OF(...) "---|"
 static void print_table(void) {
-    printf("| Calls | SHA-1 | SHA-256 | SHA-384 | SHA-512 | SHA-512/256 |\n");
-    printf("|---|---|---|---|---|---|\n");
+    printf("| Calls |" EACH_ALGORITHM(HEAD_OF) "\n");
+    printf("|---|" EACH_ALGORITHM(LINE_OF) "\n");
     for (size_t row = 0; row < sizeof ROWS / sizeof *ROWS; row++) {
         for (int which = ROWS[row].first; which <= ROWS[row].last; which++)
             printf("%s `%s`", which == ROWS[row].first ? "|" : ",", CALLS[which].name);
         printf("%s |", ROWS[row].work);
-        for (uint32_t n = YZ_SHA1; n <= YZ_SHA512_256; n++) print_cell(row, n);
+        for (uint32_t n = 1; n <= ALGORITHMS_COUNT; n++) print_cell(row, n);
         printf("\n");
     }
 }

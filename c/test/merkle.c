@@ -10,49 +10,75 @@ _Static_assert(_Alignof(yz_merkle_hash) == 1, "layout");
 #define GARBAGE_TURNS 50000
 #define MOST_LEAVES 70
 
-/* The eight entries of Certificate Transparency's merkle_verifier_test.go, the roots of the trees
- * over the first of them, and nodes of the tree over all. */
-static const struct {
-    const char *bytes;
-    size_t len;
-} ENTRIES[] = {{"", 0}, {"\0", 1}, {"\20", 1}, {" !", 2}, {"01", 2}, {"@ABC", 4}, {"PQRSTUVW", 8},
-               {"`abcdefghijklmno", 16}};
-enum { ENTRIES_COUNT = sizeof ENTRIES / sizeof *ENTRIES };
-static const char *const ROOTS[ENTRIES_COUNT + 1] = {
-    "e3b0c44298fc1c149afbf4c8996fb92427ae41e4649b934ca495991b7852b855",
-    "6e340b9cffb37a989ca544e6bb780a2c78901d3fb33738768511a30617afa01d",
-    "fac54203e7cc696cf0dfcb42c92a1d9dbaf70ad9e621f4bd8d98662f00e3c125",
-    "aeb6bcfe274b70a14fb067a5e5578264db0fa9b51af5e0ba159158f329e06e77",
-    "d37ee418976dd95753c1c73862b9398fa2a2cf9b4ff0fdfe8b30cd95209614b7",
-    "4e3bbb1f7b478dcfe71fb631631519a3bca12c9aefca1612bfce4c13a86264d4",
-    "76e67dadbcdf1e10e1b74ddc608abd2f98dfb16fbce75277b5232a127f2087ef",
-    "ddb89be403809e325750d3d263cd78929c2942b7942a34b77e122c9594a74c8c",
-    "5dc9da79a70659a9ad559cb701ded9a2ab9d823aad2f4960cfe370eff4604328",
-};
-#define NODE_A "6e340b9cffb37a989ca544e6bb780a2c78901d3fb33738768511a30617afa01d"
-#define NODE_B "96a296d224f285c67bee93c30f8a309157f0daa35dc5b87e410b78630a09cfc7"
-#define NODE_E "bc1a0643b12e4d2d7c77918f44e0f4f79a838b6cf9ec5b5c283e1f4d88599e6b"
-#define NODE_AB "fac54203e7cc696cf0dfcb42c92a1d9dbaf70ad9e621f4bd8d98662f00e3c125"
-#define NODE_CD "5f083f0a1a33ca076a95279832580db3e0ef4584bdff1f54c8a360f50de3031e"
-#define NODE_EF "0ebc5d3437fbe2db158b9f126a1d118e308181031d0a949f8dededebc558ef6a"
-#define NODE_GH "ca854ea128ed050b41b35ffc1b87b8eb2bde461e9e3b5596ece6b9d5975a0ae0"
-#define NODE_ABCD "d37ee418976dd95753c1c73862b9398fa2a2cf9b4ff0fdfe8b30cd95209614b7"
-#define NODE_EFGH "6b47aaf29ee3c2af9af889bc1fb9254dabd31177f16232dd6aab035ca39bf6e4"
+/* The tree of eight entries that the file has: the entries, the roots of the trees over the first of
+ * them, nodes of the tree over all, and proofs, by an index or by the size of a first tree. */
+#define TREE "vectors/merkle/certificate_transparency.txt"
+#define ENTRIES_COUNT 8
 #define MOST_NODES 3
-/* An index and the path of the leaf there, and the size of a first tree and its proof. */
-static const struct {
-    size_t first, size, count;
-    const char *nodes[MOST_NODES];
-} LEAF_PATHS[] = {{0, 8, 3, {NODE_B, NODE_CD, NODE_EFGH}}, {5, 8, 3, {NODE_E, NODE_GH, NODE_ABCD}},
-                  {2, 3, 1, {NODE_AB}}, {1, 5, 3, {NODE_A, NODE_CD, NODE_E}}, {0, 1, 0, {0}}},
-  TREE_PATHS[] = {{1, 8, 3, {NODE_B, NODE_CD, NODE_EFGH}}, {6, 8, 3, {NODE_EF, NODE_GH, NODE_ABCD}},
-                  {2, 5, 2, {NODE_CD, NODE_E}}};
+static struct {
+    size_t entries_count, roots_count, nodes_count, proofs_count;
+    struct {
+        uint8_t bytes[16];
+        size_t len;
+    } entries[ENTRIES_COUNT];
+    yz_merkle_hash roots[ENTRIES_COUNT + 1];
+    struct {
+        char name[8];
+        yz_merkle_hash hash;
+    } nodes[16];
+    struct {
+        bool of_leaf;
+        size_t first, size, count;
+        yz_merkle_hash path[MOST_NODES];
+    } proofs[16];
+} known;
 
-static yz_merkle_hash hash_of(const char *digits) {
-    yz_merkle_hash hash;
-    for (size_t i = 0; i < sizeof hash.bytes; i++)
-        IS(sscanf(digits + 2 * i, "%2hhx", &hash.bytes[i]), 1);
-    return hash;
+static size_t read_bytes(const char *digits, uint8_t *bytes) {
+    size_t len = *digits == '-' ? 0 : strlen(digits) / 2;
+    for (size_t i = 0; i < len; i++) IS(sscanf(digits + 2 * i, "%2hhx", &bytes[i]), 1);
+    return len;
+}
+
+static yz_merkle_hash node_of(const char *name) {
+    size_t i = 0;
+    while (i < known.nodes_count && strcmp(known.nodes[i].name, name) != 0) i++;
+    IS(i < known.nodes_count, true);
+    return known.nodes[i].hash;
+}
+
+static void read_proof(bool of_leaf) {
+    size_t n = known.proofs_count++;
+    known.proofs[n].of_leaf = of_leaf;
+    known.proofs[n].first = strtoul(strtok(NULL, " \n"), NULL, 10);
+    known.proofs[n].size = strtoul(strtok(NULL, " \n"), NULL, 10);
+    for (char *name; (name = strtok(NULL, " \n")) != NULL;)
+        known.proofs[n].path[known.proofs[n].count++] = node_of(name);
+}
+
+static void read_tree(void) {
+    char line[200];
+    FILE *file = fopen(TREE, "r");
+    IS(file != NULL, true);
+    while (file && fgets(line, sizeof line, file)) {
+        const char *word = strtok(line, " \n");
+        if (strcmp(word, "entry") == 0) {
+            size_t n = known.entries_count++;
+            known.entries[n].len = read_bytes(strtok(NULL, " \n"), known.entries[n].bytes);
+        } else if (strcmp(word, "root") == 0) {
+            strtok(NULL, " \n");
+            IS(read_bytes(strtok(NULL, " \n"), known.roots[known.roots_count++].bytes), 32);
+        } else if (strcmp(word, "node") == 0) {
+            size_t n = known.nodes_count++;
+            strcpy(known.nodes[n].name, strtok(NULL, " \n"));
+            IS(read_bytes(strtok(NULL, " \n"), known.nodes[n].hash.bytes), 32);
+        } else if (*word != '#') {
+            read_proof(strcmp(word, "inclusion") == 0);
+        }
+    }
+    IS(file && fclose(file) == 0, true);
+    IS(known.entries_count, ENTRIES_COUNT);
+    IS(known.roots_count, ENTRIES_COUNT + 1);
+    IS(known.proofs_count, 8);
 }
 
 static bool is_same(const yz_merkle_hash *a, const yz_merkle_hash *b, size_t count) {
@@ -122,27 +148,22 @@ static void path_in_rooms(bool of_leaf, const yz_merkle_hash *leaves, size_t siz
 
 /* The trees of Certificate Transparency's test. */
 static void known_trees(void) {
-    yz_merkle_hash leaves[ENTRIES_COUNT], roots[ENTRIES_COUNT + 1], path[MOST_NODES];
+    yz_merkle_hash leaves[ENTRIES_COUNT], root;
     for (size_t i = 0; i < ENTRIES_COUNT; i++) {
-        const uint8_t *entry = ENTRIES[i].len ? text(ENTRIES[i].bytes) : NULL;
-        IS(yz_merkle_leaf(entry, ENTRIES[i].len, &leaves[i]), YZ_OK);
+        const uint8_t *entry = known.entries[i].len ? known.entries[i].bytes : NULL;
+        IS(yz_merkle_leaf(entry, known.entries[i].len, &leaves[i]), YZ_OK);
     }
     for (size_t size = 0; size <= ENTRIES_COUNT; size++) {
-        yz_merkle_hash want = hash_of(ROOTS[size]);
-        IS(yz_merkle_root(size ? leaves : NULL, size, &roots[size]), YZ_OK);
-        IS(is_same(&roots[size], &want, 1), true);
+        IS(yz_merkle_root(size ? leaves : NULL, size, &root), YZ_OK);
+        IS(is_same(&root, &known.roots[size], 1), true);
     }
-    for (size_t i = 0; i < sizeof LEAF_PATHS / sizeof *LEAF_PATHS; i++) {
-        size_t index = LEAF_PATHS[i].first, size = LEAF_PATHS[i].size, count = LEAF_PATHS[i].count;
-        for (size_t k = 0; k < count; k++) path[k] = hash_of(LEAF_PATHS[i].nodes[k]);
-        path_in_rooms(true, leaves, size, index, path, count);
-        altered_path(true, &leaves[index], index, size, path, count, &roots[size]);
-    }
-    for (size_t i = 0; i < sizeof TREE_PATHS / sizeof *TREE_PATHS; i++) {
-        size_t first = TREE_PATHS[i].first, size = TREE_PATHS[i].size, count = TREE_PATHS[i].count;
-        for (size_t k = 0; k < count; k++) path[k] = hash_of(TREE_PATHS[i].nodes[k]);
-        path_in_rooms(false, leaves, size, first, path, count);
-        altered_path(false, &roots[first], first, size, path, count, &roots[size]);
+    for (size_t i = 0; i < known.proofs_count; i++) {
+        const size_t first = known.proofs[i].first, size = known.proofs[i].size;
+        const bool of_leaf = known.proofs[i].of_leaf;
+        const yz_merkle_hash *path = known.proofs[i].path,
+                             *hash = of_leaf ? &leaves[first] : &known.roots[first];
+        path_in_rooms(of_leaf, leaves, size, first, path, known.proofs[i].count);
+        altered_path(of_leaf, hash, first, size, path, known.proofs[i].count, &known.roots[size]);
     }
 }
 
@@ -197,6 +218,6 @@ static void refused_trees(void) {
 }
 
 int main(void) {
-    known_trees(), all_paths(), refused_trees();
+    read_tree(), known_trees(), all_paths(), refused_trees();
     return end_of_checks();
 }

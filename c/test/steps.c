@@ -3,6 +3,7 @@
  * below the stack pointer, and the stack is unwound to the caller by the library's tables. The
  * caller's place and stack and all registers that a call keeps must come out of each step, and the
  * call must answer and write what it does without steps. */
+#include "../rows.h"
 #include "yezdopin.h"
 #include <stdio.h>
 #include <string.h>
@@ -174,9 +175,9 @@ CALLS_OF_HASHES(X)
 int main(void) {
     AddVectoredExceptionHandler(1, step);
     for (size_t i = 0; i < sizeof bytes; i++) bytes[i] = (uint8_t)(7 * i);
-    for (n = YZ_SHA1; n <= YZ_SHA512_256; n++) {
+    for (n = 1; n <= ALGORITHMS_COUNT; n++) {
         CALLS_OF_DIGESTS(X)
-        if (n == YZ_SHA512_256) continue;
+        if (!IS_KEYED(n)) continue;
         CALLS_OF_TAGS(X)
     }
     CALLS_OF_HASHES(X)

@@ -2,6 +2,7 @@
 /* Each status of each call but those of merkle.c, password_hashes.c and tokens.c, NULL at length 0,
  * several messages, messages in pieces, copies in mid-stream, and garbage in the place of contexts
  * and keys. Values come from the standards, named where they stand. */
+#include "../rows.h"
 #include "check.h"
 #include <string.h>
 
@@ -29,10 +30,10 @@ _Static_assert(offsetof(yz_message, len) == 8, "layout");
 #define MOST_PIECE 300
 #define MOST_COUNT 65
 
-static const size_t OUTPUT[] = {0, YZ_SHA1_OUTPUT_LEN, YZ_SHA256_OUTPUT_LEN, YZ_SHA384_OUTPUT_LEN,
-                                YZ_SHA512_OUTPUT_LEN, YZ_SHA512_256_OUTPUT_LEN, 0};
-static const size_t BLOCK[] = {0, YZ_SHA1_BLOCK_LEN, YZ_SHA256_BLOCK_LEN, YZ_SHA384_BLOCK_LEN,
-                               YZ_SHA512_BLOCK_LEN, YZ_SHA512_256_BLOCK_LEN, 0};
+#define OUTPUT_LEN_OF(name, ...) YZ_##name##_OUTPUT_LEN,
+#define BLOCK_LEN_OF(name, ...) YZ_##name##_BLOCK_LEN,
+static const size_t OUTPUT[] = {0, EACH_ALGORITHM(OUTPUT_LEN_OF) 0};
+static const size_t BLOCK[] = {0, EACH_ALGORITHM(BLOCK_LEN_OF) 0};
 
 /* Each call once, with a value from outside. */
 static void known_values(void) {
@@ -174,7 +175,7 @@ static void several_messages(void) {
     static const size_t COUNTS[] = {0, 1, 3, 4, 5, 9, 15, 16, 17, 20, 33, 64, MOST_COUNT};
     several it;
     fill_at_random(it.bytes, sizeof it.bytes);
-    for (uint32_t n = YZ_SHA1; n <= YZ_SHA512_256; n++)
+    for (uint32_t n = 1; n <= ALGORITHMS_COUNT; n++)
         for (size_t i = 0; i < sizeof COUNTS / sizeof *COUNTS; i++)
             for (int turn = 0; turn < 10; turn++) {
                 digests_of_several(&it, n, COUNTS[i]);
@@ -388,7 +389,7 @@ static void pieces(void) {
         size_t len = below(below(MOST_MESSAGE) + 1);
         fill_at_random(message, len);
         digest_in_pieces(n, message, len);
-        if (n != YZ_SHA512_256) tag_in_pieces(n, below(MOST_PIECE), message, len);
+        if (IS_KEYED(n)) tag_in_pieces(n, below(MOST_PIECE), message, len);
     }
 }
 
@@ -484,7 +485,7 @@ static void first_causes(void) {
     IS(yz_password_hash_new(YZ_PHC_SHA256, 1, few, 1, few, past, out, 200, &len), YZ_UNSPECIFIED);
 }
 
-/* tests/statuses.py compares the texts with the header's. */
+/* tools/lists.py writes the texts and the header's. */
 static void texts_of_statuses(void) {
     const yz_status others[] = {-1, YZ_UNSPECIFIED + 1, 256, INT32_MIN, INT32_MAX};
     for (yz_status i = YZ_OK; i <= YZ_UNSPECIFIED; i++) {

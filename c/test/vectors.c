@@ -3,6 +3,7 @@
  * formats) by these calls, and compares with what stands behind `#= ` below the line, but for the
  * number of blocks. Lines of whole key schedules are passed over. The digests are answered once
  * more, all of an algorithm by one call. */
+#include "../rows.h"
 #include "yezdopin.h"
 #include <stdio.h>
 #include <stdlib.h>
@@ -21,16 +22,17 @@ static struct {
     yz_message messages[MOST_LINES];
     const char *digests[MOST_LINES];
     size_t count;
-} lines[YZ_SHA512_256 + 1];
+} lines[ALGORITHMS_COUNT + 1];
 
 static void *held(void *memory) {
     if (!memory) abort();
     return memory;
 }
 
+#define NAME_OF(name, ...) #name,
 static uint32_t number_of(const char *name) {
-    static const char *const NAMES[] = {"SHA1", "SHA256", "SHA384", "SHA512", "SHA512_256"};
-    for (uint32_t i = 0; i < 5; i++)
+    static const char *const NAMES[] = {EACH_ALGORITHM(NAME_OF)};
+    for (uint32_t i = 0; i < sizeof NAMES / sizeof *NAMES; i++)
         if (!strcmp(name, NAMES[i])) return i + 1;
     return 0;
 }
@@ -244,7 +246,7 @@ int main(int count, char **names) {
         }
         fclose(file);
     }
-    for (uint32_t n = YZ_SHA1; n <= YZ_SHA512_256; n++) {
+    for (uint32_t n = 1; n <= ALGORITHMS_COUNT; n++) {
         int others = differ_together(n);
         if (others || !lines[n].count) printf("%d digests of algorithm %u differ\n", others, n);
         differ += others, together += (int)lines[n].count;

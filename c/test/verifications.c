@@ -1,16 +1,21 @@
 /* SPDX-License-Identifier: ISC */
 /* Answers the calls of the table that tests/verifications writes, each in all ways that the library
  * has for it, which must agree, and compares with the answer below the call. */
+#include "../rows.h"
 #include "table.h"
 #include "yezdopin.h"
 
 #define UNWRITTEN 7
 
+#define NAME_OF(name, ...) {#name, YZ_##name},
+#define TOKEN_OF(name, token) {token, YZ_##name},
 static uint32_t algorithm_of(const char *name) {
-    static const char *const NAMES[] = {"SHA1", "SHA256", "SHA384", "SHA512"};
-    for (uint32_t i = 0; i < 4; i++)
-        if (!strcmp(name, NAMES[i]) || (*name == 'H' && !strcmp(name + 2, NAMES[i] + 3)))
-            return i + 1;
+    static const struct {
+        const char *name;
+        uint32_t algorithm;
+    } NAMES[] = {EACH_KEYED(NAME_OF) EACH_TOKEN(TOKEN_OF)};
+    for (size_t i = 0; i < sizeof NAMES / sizeof *NAMES; i++)
+        if (!strcmp(name, NAMES[i].name)) return NAMES[i].algorithm;
     abort();
 }
 

@@ -2,9 +2,11 @@
 // Lists of checksums, as sha256sum and its like write and read them.
 
 // The algorithms by how many digits a checksum has.
+// algorithms: made by tools/lists.py
 const OF_DIGITS = new Map([[40, "sha1"], [64, "sha256"], [96, "sha384"], [128, "sha512"]]);
 const OF_TAGS = new Map([["SHA1", "sha1"], ["SHA256", "sha256"], ["SHA384", "sha384"],
   ["SHA512", "sha512"], ["SHA512/256", "sha512-256"]]);
+// /algorithms
 const DIGITS = new Map([...OF_DIGITS].map(([digits, algorithm]) => [algorithm, digits]));
 DIGITS.set("sha512-256", 64);
 

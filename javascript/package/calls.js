@@ -6,6 +6,7 @@
 import { refused, wrongDigest, wrongKeyLength } from "./errors.js";
 import { host } from "./inputs.js";
 
+// statuses: made by tools/lists.py
 const OK = 0;
 const UNKNOWN_ALGORITHM = 1;
 const UNKNOWN_CONTEXT = 2;
@@ -15,7 +16,20 @@ const BAD_FORMAT = 5;
 const TOO_MANY_ITERATIONS = 6;
 const BAD_SALT = 7;
 const UNSPECIFIED = 8;
+const TEXTS = [
+  "success",
+  "the number names no algorithm or scheme of this call",
+  "the bytes can be no context or key",
+  "the number of iterations is 0",
+  "the output or a text has a wrong length",
+  "no password hash has the text",
+  "the text has more iterations than the caller takes",
+  "a new password hash can't have the salt",
+  "an input is out of its limits, or the verification failed",
+];
+// /statuses
 
+// limits: made by tools/lists.py
 const DIGEST_CONTEXT_LEN = 216;
 const HMAC_KEY_LEN = 136;
 const HMAC_CONTEXT_LEN = 280;
@@ -26,6 +40,7 @@ export const HASH_LEN = 32;
 const MAX_PATH = 65;
 // Of a token what is neither payload nor tag: the header and two full stops.
 const JWS_REST_LEN = 38;
+// /limits
 // Of the module's numbers: a uint32_t, and a size_t or a uint64_t.
 const WORD_LEN = 4;
 const SIZE_LEN = 8;
@@ -114,14 +129,14 @@ function refuse(error) {
 // The exception of a status.
 function errorOf(status) {
   switch (status) {
-    case UNKNOWN_ALGORITHM: return wrongDigest("the call does not have it");
-    case UNKNOWN_CONTEXT: return refused(TypeError, "no context and no key");
-    case NO_ITERATIONS: return refused(RangeError, "no iterations");
+    case UNKNOWN_ALGORITHM: return wrongDigest(TEXTS[status]);
+    case UNKNOWN_CONTEXT: return refused(TypeError, TEXTS[status]);
+    case NO_ITERATIONS: return refused(RangeError, TEXTS[status]);
     case WRONG_LENGTH: return wrongKeyLength();
-    case BAD_FORMAT: return refused(TypeError, "no password hash has this text");
-    case TOO_MANY_ITERATIONS: return refused(RangeError, "the text names too many iterations");
-    case BAD_SALT: return refused(RangeError, "a password hash cannot have this salt");
-    default: return refused(RangeError, "an input is too long");
+    case BAD_FORMAT: return refused(TypeError, TEXTS[status]);
+    case TOO_MANY_ITERATIONS: return refused(RangeError, TEXTS[status]);
+    case BAD_SALT: return refused(RangeError, TEXTS[status]);
+    default: return refused(RangeError, TEXTS[status]);
   }
 }
 

@@ -48,6 +48,9 @@ export const wrongKeyLength = () => coded(RangeError, "ERR_CRYPTO_INVALID_KEYLEN
 export const shortKey = (least) => coded(RangeError, "ERR_CRYPTO_INVALID_KEYLEN",
   `Invalid key length: at least ${least} bytes, where "allowShortKey" is not set`);
 
+export const emptyKey = () => coded(RangeError, "ERR_CRYPTO_INVALID_KEYLEN",
+  "Invalid key length: an empty key");
+
 export const finalized = () => coded(Error, "ERR_CRYPTO_HASH_FINALIZED", "Digest already called");
 
 export const lengthsDiffer = () => coded(RangeError, "ERR_CRYPTO_TIMING_SAFE_EQUAL_LENGTH",

@@ -4,7 +4,12 @@
 
 import { outOfRange, unknownEncoding, wrongDigest, wrongType } from "./errors.js";
 
+// algorithms: made by tools/lists.py
 export const HASHES = ["sha1", "sha256", "sha384", "sha512", "sha512-256"];
+const KEYED = new Set([1, 2, 3, 4]);
+/** The numbers of the algorithms of tokens, by their names there (RFC 7518, 3.2). */
+export const TOKENS = new Map([["HS256", 2], ["HS384", 3], ["HS512", 4]]);
+// /algorithms
 
 // The numbers of the algorithms, by their names in OpenSSL, in WebCrypto and in the standard.
 const ALGORITHMS = new Map(HASHES.flatMap((name, i) => {
@@ -13,7 +18,6 @@ const ALGORITHMS = new Map(HASHES.flatMap((name, i) => {
     .flatMap((it) => [[it, i + 1], [it.replace("512-256", "512/256"), i + 1]]);
 }));
 ALGORITHMS.delete("sha2-1");
-const SHA512_256 = 5;
 
 const MAX_INT32 = 2 ** 31 - 1;
 
@@ -30,7 +34,7 @@ export const numberOf = (name) => ALGORITHMS.get(name) ?? ALGORITHMS.get(name.to
 /** The number of an algorithm of HMAC, HKDF and PBKDF2. */
 export function macOf(algorithm, argument) {
   const name = nameOf(algorithm, argument), number = numberOf(name);
-  if (number === undefined || number === SHA512_256) throw wrongDigest(name);
+  if (!KEYED.has(number)) throw wrongDigest(name);
   return number;
 }
 

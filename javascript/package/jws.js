@@ -3,16 +3,12 @@
 
 import * as calls from "./calls.js";
 import { wrongKeyLength, wrongValue } from "./errors.js";
-import { bytesOrText, keyOf, numberOf } from "./inputs.js";
-
-// The numbers of the algorithms, by their names in tokens (RFC 7518, 3.2).
-const ALGORITHMS = new Map([["HS256", numberOf("sha256")], ["HS384", numberOf("sha384")],
-  ["HS512", numberOf("sha512")]]);
+import { bytesOrText, keyOf, TOKENS } from "./inputs.js";
 
 function algorithmOf(name) {
-  const number = ALGORITHMS.get(name);
+  const number = TOKENS.get(name);
   if (number !== undefined) return number;
-  throw wrongValue("algorithm", `: it is one of ${[...ALGORITHMS.keys()].join(", ")}`);
+  throw wrongValue("algorithm", `: it is one of ${[...TOKENS.keys()].join(", ")}`);
 }
 
 // An algorithm and a key, which has as many bytes as its digest at least (RFC 7518, 3.2).

@@ -2,7 +2,7 @@
 // One-time passwords: HOTP (RFC 4226), and TOTP (RFC 6238).
 
 import * as calls from "./calls.js";
-import { outOfRange, shortKey } from "./errors.js";
+import { emptyKey, outOfRange, shortKey } from "./errors.js";
 import { bytesOrText, keyOf, macOf, uint64Of, wholeOf } from "./inputs.js";
 
 const DIGITS = 6;
@@ -11,10 +11,12 @@ const MAX_UINT32 = 2 ** 32 - 1;
 // RFC 4226, section 4.
 const MIN_KEY_LEN = 16;
 
-// The first words of a call. A short key is refused where nobody allows it.
+// The first words of a call. A short key is refused where nobody allows it, and an empty one
+// always, since everybody has it.
 function keyWords(algorithm, key, allowShortKey) {
-  const words = [macOf(algorithm, "algorithm"), keyOf(key, "key")];
-  if (words[1].length < MIN_KEY_LEN && allowShortKey !== true) throw shortKey(MIN_KEY_LEN);
+  const words = [macOf(algorithm, "algorithm"), keyOf(key, "key")], len = words[1].length;
+  if (len < MIN_KEY_LEN && allowShortKey !== true) throw shortKey(MIN_KEY_LEN);
+  if (len === 0) throw emptyKey();
   return words;
 }
 

@@ -8,18 +8,10 @@ import { later } from "./later.js";
 
 // In the order of their numbers in C, from 1 on.
 const SCHEMES = [
-  "django-sha256",
-  "django-sha1",
-  "werkzeug-sha256",
-  "werkzeug-sha512",
-  "phc-sha256",
-  "phc-sha512",
-  "mosquitto",
-  "passlib-sha1",
-  "passlib-sha256",
-  "passlib-sha512",
-  "postgresql",
-  "werkzeug-sha1",
+  // schemes: made by tools/lists.py
+  "django-sha256", "django-sha1", "werkzeug-sha256", "werkzeug-sha512", "phc-sha256", "phc-sha512",
+  "mosquitto", "passlib-sha1", "passlib-sha256", "passlib-sha512", "postgresql", "werkzeug-sha1",
+  // /schemes
 ];
 const SALT_RANDOM_LEN = 16;
 const MAX_UINT32 = 2 ** 32 - 1;

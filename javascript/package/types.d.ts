@@ -3,10 +3,12 @@
 // Node (node.d.ts), a Uint8Array in browsers (browser.d.ts).
 
 /** Of HMAC, HKDF and PBKDF2, in letters of either case. SHA-1 is broken: for old data alone. */
+// algorithms: made by tools/lists.py
 export type HmacAlgorithm = "sha1" | "sha256" | "sha384" | "sha512" | "SHA1" | "SHA256" | "SHA384"
   | "SHA512" | "SHA-1" | "SHA-256" | "SHA-384" | "SHA-512" | "RSA-SHA1" | "RSA-SHA256"
   | "RSA-SHA384" | "RSA-SHA512" | { name: string };
 export type Algorithm = HmacAlgorithm | "sha512-256" | "SHA-512/256" | "RSA-SHA512/256";
+// /algorithms
 /** A buffer, or a view of one. A call reads a copy, so that a shared one may change meanwhile. */
 export type Bytes = ArrayBufferLike | ArrayBufferView;
 /** Text stands for its bytes in UTF-8. */
@@ -80,9 +82,11 @@ export interface Api<B, K, E> {
 }
 
 /** The schemes of password hashes, by their names in the other packages. */
+// schemes: made by tools/lists.py
 export type PasswordHashScheme = "django-sha256" | "django-sha1" | "werkzeug-sha256"
   | "werkzeug-sha512" | "phc-sha256" | "phc-sha512" | "mosquitto" | "passlib-sha1"
   | "passlib-sha256" | "passlib-sha512" | "postgresql" | "werkzeug-sha1";
+// /schemes
 export interface NewPasswordHash {
   iterations: number;
   /** Random bytes of this hash alone, which are made where it is left out. */
@@ -139,7 +143,9 @@ export interface Merkle<B> {
     path: Iterable<Bytes>): boolean;
 }
 
+// tokens: made by tools/lists.py
 export type JwsAlgorithm = "HS256" | "HS384" | "HS512";
+// /tokens
 /**
  * JSON Web Signatures in the compact form under HMAC (RFC 7515), of which JSON Web Tokens are made.
  * A key is for one algorithm, and has as many bytes as its digest at least: a shorter one raises a

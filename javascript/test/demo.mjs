@@ -110,7 +110,7 @@ assert.deepEqual(last, ["abc.txt", "3 bytes", "SHA-512/256", digests("sha512-256
 const wrong = crypto.createHash("sha1").update("other").digest("hex");
 const tagged = `SHA512/256 (abc.txt) = ${digests("sha512-256")[1][1]}`;
 await set("list", [`${digests("sha256")[0][1]}  dist/a large file.bin`,
-  `${digests("sha384")[1][1].toUpperCase()} *abc.txt`, tagged, `${wrong}  <b>&.txt`,
+  `${digests("sha1")[1][1].toUpperCase()} *abc.txt`, tagged, `${wrong}  <b>&.txt`,
   `${digests("sha512")[2][1]}  empty`, `${wrong}  nowhere`, "what is no line"].join("\r\n"));
 await dropFiles("#verify-drop", paths);
 const summary = 'document.getElementById("verify-summary").textContent';

@@ -8,11 +8,11 @@ import { once } from "node:events";
 import { test } from "node:test";
 import { pathToFileURL } from "node:url";
 import { Worker } from "node:worker_threads";
-import { TAGS, instances, isWiped, yz } from "./package.mjs";
+import { TAGS, instances, isWiped, titleOf, yz } from "./package.mjs";
 
 const { PACKAGE } = process.env;
 const LONG = 300 * 1024; // `subtle` gives it to a worker
-const HASHES = { sha1: "SHA-1", sha256: "SHA-256", sha384: "SHA-384", sha512: "SHA-512" };
+const HASHES = Object.fromEntries(TAGS.map((it) => [it, titleOf(it)]));
 
 // What a caller does with a buffer: zeros are written, it is moved away, or it becomes shorter.
 const SPOILERS = [

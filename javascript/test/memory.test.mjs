@@ -16,7 +16,7 @@ import { hex } from "./vectors.mjs";
 const { PACKAGE } = process.env;
 
 test("no call leaves a byte in the module's memory", () => {
-  const running = yz.createHash("sha512"), tagged = yz.createHmac("sha384", "a key");
+  const running = yz.createHash("sha512"), tagged = yz.createHmac("sha512", "a key");
   const calls = TAGS.flatMap((name) => [
     () => yz.digest(name, crypto.randomBytes(300)),
     () => yz.digest(name, crypto.randomBytes(70000)),

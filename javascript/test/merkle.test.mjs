@@ -11,37 +11,18 @@ import { isWiped, main, yz } from "./package.mjs";
 import { hex } from "./vectors.mjs";
 
 const { VECTORS } = process.env, { merkle } = yz;
-const ENTRIES = ["", "\0", "\x10", " !", "01", "@ABC", "PQRSTUVW", "`abcdefghijklmno"];
-const unhex = (text) => Buffer.from(text, "hex");
-const ROOTS = `
-e3b0c44298fc1c149afbf4c8996fb92427ae41e4649b934ca495991b7852b855
-6e340b9cffb37a989ca544e6bb780a2c78901d3fb33738768511a30617afa01d
-fac54203e7cc696cf0dfcb42c92a1d9dbaf70ad9e621f4bd8d98662f00e3c125
-aeb6bcfe274b70a14fb067a5e5578264db0fa9b51af5e0ba159158f329e06e77
-d37ee418976dd95753c1c73862b9398fa2a2cf9b4ff0fdfe8b30cd95209614b7
-4e3bbb1f7b478dcfe71fb631631519a3bca12c9aefca1612bfce4c13a86264d4
-76e67dadbcdf1e10e1b74ddc608abd2f98dfb16fbce75277b5232a127f2087ef
-ddb89be403809e325750d3d263cd78929c2942b7942a34b77e122c9594a74c8c
-5dc9da79a70659a9ad559cb701ded9a2ab9d823aad2f4960cfe370eff4604328
-`.trim().split("\n").map(unhex);
-// Nodes of the tree of eight, named by the leaves below them.
-const NODES = {
-  a: ROOTS[1],
-  b: unhex("96a296d224f285c67bee93c30f8a309157f0daa35dc5b87e410b78630a09cfc7"),
-  e: unhex("bc1a0643b12e4d2d7c77918f44e0f4f79a838b6cf9ec5b5c283e1f4d88599e6b"),
-  ab: ROOTS[2],
-  cd: unhex("5f083f0a1a33ca076a95279832580db3e0ef4584bdff1f54c8a360f50de3031e"),
-  ef: unhex("0ebc5d3437fbe2db158b9f126a1d118e308181031d0a949f8dededebc558ef6a"),
-  gh: unhex("ca854ea128ed050b41b35ffc1b87b8eb2bde461e9e3b5596ece6b9d5975a0ae0"),
-  abcd: ROOTS[4],
-  efgh: unhex("6b47aaf29ee3c2af9af889bc1fb9254dabd31177f16232dd6aab035ca39bf6e4"),
-};
-const nodes = (names) => names.split(" ").filter(Boolean).map((it) => NODES[it]);
-const PATHS = [[0, 8, "b cd efgh"], [5, 8, "e gh abcd"], [2, 3, "ab"], [1, 5, "a cd e"],
-  [0, 1, ""]];
-const PROOFS = [[1, 8, "b cd efgh"], [6, 8, "ef gh abcd"], [2, 5, "cd e"]];
+// The tree of vectors/merkle: what stands behind the word of each line that begins with it.
+const LINES = readFileSync(`${VECTORS}/merkle/certificate_transparency.txt`, "utf8").split("\n")
+  .map((line) => line.split(" "));
+const linesOf = (word) => LINES.filter(([first]) => first === word).map(([, ...rest]) => rest);
+const unhex = (text) => Buffer.from(text.replace("-", ""), "hex");
+const ENTRIES = linesOf("entry").map(([it]) => unhex(it));
+const ROOTS = linesOf("root").map(([, root]) => unhex(root));
+const NODES = Object.fromEntries(linesOf("node").map(([name, it]) => [name, unhex(it)]));
+const [PATHS, PROOFS] = ["inclusion", "consistency"].map((word) => linesOf(word).map(
+  ([first, size, ...names]) => [+first, +size, names.map((it) => NODES[it])]));
 const LEAVES = ENTRIES.map((it) => merkle.leaf(it));
-const PATH_OF_FIRST = nodes("b cd efgh");
+const PATH_OF_FIRST = PATHS[0][2];
 // What is an index and a size of no tree, and what is no hash.
 const NO_SIZES = [-1, -1n, -(2n ** 64n), 2n ** 64n, 2n ** 64n + 1n, 2n ** 200n];
 const NO_HASHES = [0, 31, 33, 64].map((len) => Buffer.alloc(len));
@@ -111,8 +92,8 @@ test("the roots and paths of Certificate Transparency", () => {
     assert.deepEqual(merkle.root(LEAVES.slice(0, size)), root);
     assert.deepEqual(merkle.root(new Set(LEAVES.slice(0, size))), root);
   }
-  for (const [index, size, names] of PATHS) {
-    const path = nodes(names), leaf = LEAVES[index], root = ROOTS[size];
+  for (const [index, size, path] of PATHS) {
+    const leaf = LEAVES[index], root = ROOTS[size];
     assert.deepEqual(merkle.inclusionPath(LEAVES.slice(0, size), index), path);
     for (const [at, count] of [[index, size], [BigInt(index), BigInt(size)]]) {
       assert.equal(merkle.verifyInclusion(leaf, at, count, path, root), true);
@@ -122,8 +103,8 @@ test("the roots and paths of Certificate Transparency", () => {
       assert.equal(merkle.verifyInclusion(leaf, index, size, wrong, root), false);
     }
   }
-  for (const [first, size, names] of PROOFS) {
-    const path = nodes(names), roots = [ROOTS[first], ROOTS[size]];
+  for (const [first, size, path] of PROOFS) {
+    const roots = [ROOTS[first], ROOTS[size]];
     const verify = (it) => merkle.verifyConsistency(first, roots[0], BigInt(size), roots[1], it);
     assert.deepEqual(merkle.consistencyPath(LEAVES.slice(0, size), BigInt(first)), path);
     assert.equal(verify(path), true);
@@ -138,9 +119,9 @@ test("the example of docs/MERKLE.md knows the entries", async () => {
   const text = page.match(/^```js\n(.*?)^```$/ms)[1].replace('"yezdopin"', JSON.stringify(main));
   const { isLogged } = await import(
     `data:text/javascript,${encodeURIComponent(`${text}export { isLogged };`)}`);
-  for (const [index, size, names] of PATHS) {
-    assert.equal(isLogged(ENTRIES[index], index, BigInt(size), nodes(names), ROOTS[size]), true);
-    assert.equal(isLogged("another", index, BigInt(size), nodes(names), ROOTS[size]), false);
+  for (const [index, size, path] of PATHS) {
+    assert.equal(isLogged(ENTRIES[index], index, BigInt(size), path, ROOTS[size]), true);
+    assert.equal(isLogged("another", index, BigInt(size), path, ROOTS[size]), false);
   }
 });
 

@@ -18,8 +18,14 @@ WebAssembly.Instance = class extends Instance {
 };
 export const main = pathToFileURL(`${PACKAGE}/node.js`).href;
 export const yz = await import(main);
-export const NAMES = ["sha1", "sha256", "sha384", "sha512", "sha512-256"];
-export const TAGS = NAMES.slice(0, 4);
+
+// The algorithms that the vectors of a call name.
+const namedIn = (call) => [...new Set(readFileSync(`${VECTORS}/${call}.txt`, "utf8")
+  .match(new RegExp(`(?<=^${call} )\\w+`, "gm")))].map((it) => it.toLowerCase().replace("_", "-"));
+export const NAMES = namedIn("digest");
+export const TAGS = namedIn("hmac");
+// Their names in WebCrypto.
+export const titleOf = (name) => name.replace("sha", "SHA-");
 export const SHA256_OF_ABC = "ba7816bf8f01cfea414140de5dae2223b00361a396177a9cb410ff61f20015ad";
 export const memoryNow = () => new Uint8Array(instances.at(-1).memory.buffer);
 export const AS_NEW = memoryNow().slice();

@@ -14,7 +14,7 @@ import { test } from "node:test";
 import { promisify } from "node:util";
 import { Worker } from "node:worker_threads";
 import {
-  NAMES, SHA256_OF_ABC, TAGS, instances, linesOf, main, theirs, unhex, yz,
+  NAMES, SHA256_OF_ABC, TAGS, instances, linesOf, main, theirs, titleOf, unhex, yz,
 } from "./package.mjs";
 import { FILES, hex, run } from "./vectors.mjs";
 
@@ -322,8 +322,9 @@ test("labels of TLS and QUIC, by the vectors of the RFCs", () => {
   }
 });
 
-const statusOf = (error) =>
-  /too many iterations/.test(error.message) ? "too many iterations" : "not a password hash";
+// A refusal as the vectors have it.
+const statusOf = ({ message }) =>
+  /more iterations/.test(message) ? "too many iterations" : "not a password hash";
 
 test("password hashes, by the vectors of other systems", async () => {
   const told = { true: "ok", false: "wrong password" }, count = {};
@@ -402,8 +403,8 @@ test("new password hashes have salts of their own, and refusals", async () => {
   for (const maxIterations of [0, 2 ** 32, 1.5]) {
     await assert.rejects(verify("nothing", "pw", { maxIterations }), RangeError);
   }
-  assert.throws(() => newSync("werkzeug-sha256", "pw", { iterations: 1, salt: "$" }), /this salt/);
-  assert.throws(() => newSync("phc-sha256", "pw", { iterations: 1, salt: "" }), /this salt/);
+  assert.throws(() => newSync("werkzeug-sha256", "pw", { iterations: 1, salt: "$" }), /the salt/);
+  assert.throws(() => newSync("phc-sha256", "pw", { iterations: 1, salt: "" }), /the salt/);
   assert.throws(() => newSync("md5", "pw", { iterations: 1 }), { code: "ERR_INVALID_ARG_VALUE" });
   assert.throws(() => newSync("phc-sha256", "pw"), TypeError);
   // As Node 18 has it.
@@ -425,7 +426,7 @@ test("WebCrypto's shape beside WebCrypto", async () => {
   const theirSubtle = crypto.webcrypto.subtle, message = crypto.randomBytes(300000);
   const raw = crypto.randomBytes(20), salt = crypto.randomBytes(9), info = crypto.randomBytes(5);
   const imported = (subtle, name, uses) => subtle.importKey("raw", raw,
-    name === "HMAC" ? { name, hash: "SHA-384" } : name, false, uses);
+    name === "HMAC" ? { name, hash: "SHA-512" } : name, false, uses);
   for (const data of [message, message.subarray(0, 99)]) {
     const answers = await Promise.all([yz.subtle, theirSubtle].map(async (subtle) => {
       const key = await imported(subtle, "HMAC", ["sign", "verify"]);
@@ -469,10 +470,9 @@ function wrongTags(tag) {
 }
 
 test("only the whole tag is right, around each length at which a call changes its way", async () => {
-  const key = crypto.randomBytes(32), hashes = { sha1: "SHA-1", sha256: "SHA-256",
-    sha384: "SHA-384", sha512: "SHA-512" };
-  for (const [name, hash] of Object.entries(hashes)) {
-    const algorithm = { name: "HMAC", hash };
+  const key = crypto.randomBytes(32);
+  for (const name of TAGS) {
+    const algorithm = { name: "HMAC", hash: titleOf(name) };
     const made = await yz.subtle.importKey("raw", key, algorithm, false, ["verify"]);
     for (const len of [0, 100, 65536, 65537, 262144, 262145]) {
       const message = crypto.randomBytes(len);

@@ -4,9 +4,10 @@
 
 export const FILES = ["digest", "digest_lengths", "hkdf", "hkdf_lengths", "hmac", "hmac_lengths",
   "lines", "pbkdf2", "pbkdf2_lengths", "pbkdf2_rounds", "pbkdf2_verified", "ring"];
-const NAMES = new Map(Object.entries({
-  SHA1: "SHA-1", SHA256: "SHA-256", SHA384: "SHA-384", SHA512: "SHA-512", SHA512_256: "SHA-512/256",
-}));
+// An algorithm's name in the standard and in WebCrypto, by that in the lines.
+const titleOf = (name) => name.replace("SHA", "SHA-").replace("_", "/");
+const isKnown = (yz, name) => /^SHA\w+$/.test(name)
+  && yz.getHashes().includes(name.toLowerCase().replace("_", "-"));
 
 export const hex = (bytes) =>
   Array.from(new Uint8Array(bytes), (it) => it.toString(16).padStart(2, "0")).join("");
@@ -61,8 +62,8 @@ const KINDS = {
 
 // The answer to a line as the files have it, without its cost.
 function answer(yz, [kind, algorithm, ...rest]) {
-  if (!Object.hasOwn(KINDS, kind) || !NAMES.has(algorithm)) return "?";
-  const made = KINDS[kind](yz, NAMES.get(algorithm), rest);
+  if (!Object.hasOwn(KINDS, kind) || !isKnown(yz, algorithm)) return "?";
+  const made = KINDS[kind](yz, titleOf(algorithm), rest);
   if (made === null) return "refused";
   if (typeof made === "boolean") return made ? "match" : "mismatch";
   return hex(made) || "-";
@@ -70,7 +71,7 @@ function answer(yz, [kind, algorithm, ...rest]) {
 
 // What WebCrypto says of the same lines, or null where it does not have them or refuses them.
 async function answerOfSubtle(subtle, [kind, algorithm, ...rest]) {
-  const hash = NAMES.get(algorithm);
+  const hash = titleOf(algorithm ?? "");
   const importing = (value, name, use) => subtle.importKey(
     "raw", bytesOf(value), name === "HMAC" ? { name, hash } : name, false, [use]);
   const ways = {

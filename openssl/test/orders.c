@@ -2,6 +2,7 @@
 /* Calls in wrong orders, and missing and wrong parameters, with and without the default provider
  * beside; the setting `hand_on`; records of TLS; loading and unloading in both orders.
  * orders MODULES LOADS */
+#include "../../c/rows.h"
 #include "single.h"
 #include <openssl/conf.h>
 #include <openssl/core_dispatch.h>
@@ -261,13 +262,14 @@ static size_t record_tag(OSSL_LIB_CTX *context, const char *properties, const ch
     return out_len;
 }
 
+#define NAME_OF(NAME, title, name, names) name,
 static void records(OSSL_LIB_CTX *context)
 {
-    static const char *const digests[] = {"SHA1", "SHA256", "SHA384"};
+    static const char *const digests[] = {EACH_KEYED(NAME_OF)};
     static unsigned char bytes[MOST_RECORD];
     unsigned char out[2][64];
     memset(bytes, 0x17, sizeof bytes);
-    for (int i = 0; i < 3; i++) {
+    for (size_t i = 0; i < sizeof digests / sizeof *digests; i++) {
         for (size_t len = 0; len < MOST_RECORD; len += 7) {
             size_t total = len + (size_t)EVP_MD_get_size(EVP_get_digestbyname(digests[i])) + 17;
             size_t ours = record_tag(context, OURS, digests[i], bytes, len, total, out[0]);

@@ -29,8 +29,7 @@ def digests():
         if not given:
             signing = hmac.new(b"a key", DATA[:500], name)
             print(signing.hexdigest(), hmac.digest(b"a key", DATA, name).hex())
-    for name in ["sha1", "sha256", "sha384", "sha512", "sha224", "md5", "sha3_256", "sha512_256"]:
-        print(name, hashlib.pbkdf2_hmac(name, b"password", b"salt", 100, 70).hex())
+            print(hashlib.pbkdf2_hmac(name, b"password", b"salt", 100, 70).hex())
     print(hashlib.scrypt(b"password", salt=b"salt", n=16, r=8, p=1).hex())
 
 

@@ -2,17 +2,18 @@
 /* One context of a digest for message after message, by the provider's own calls: OpenSSL 3.0 makes
  * a context anew for each message, and later ones begin again in the same. Messages are short and
  * long, ended and not, and copies go on. The digests are the C library's. reuse MODULES */
+#include "../../c/rows.h"
 #include "single.h"
 #include "yezdopin.h"
 #include <openssl/core_dispatch.h>
 
 #define MOST_LEN 400
 
+#define DIGEST(NAME, title, name, names) {names, YZ_##NAME},
 static const struct {
-    const char *name;
+    const char *names;
     uint32_t algorithm;
-} DIGESTS[] = {{"SHA1", YZ_SHA1}, {"SHA2-256", YZ_SHA256}, {"SHA2-384", YZ_SHA384},
-               {"SHA2-512", YZ_SHA512}, {"SHA2-512/256", YZ_SHA512_256}};
+} DIGESTS[] = {EACH_ALGORITHM(DIGEST)};
 enum { NUM_DIGESTS = sizeof DIGESTS / sizeof *DIGESTS };
 
 /* Around the length up to which a message is kept, and around blocks. */
@@ -97,9 +98,7 @@ int main(int argc, char **argv)
     const OSSL_ALGORITHM *it = OSSL_PROVIDER_query_operation(ours, OSSL_OP_DIGEST, &no_store);
     for (; it != NULL && it->algorithm_names != NULL; it++) {
         for (size_t n = 0; n < NUM_DIGESTS; n++) {
-            const char *name = DIGESTS[n].name;
-            if (strstr(it->algorithm_names, name) == NULL) continue;
-            if (n == YZ_SHA512 - 1 && strstr(it->algorithm_names, "512/256") != NULL) continue;
+            if (strcmp(it->algorithm_names, DIGESTS[n].names) != 0) continue;
             const calls of = calls_of(it->implementation);
             tried++;
             for (size_t i = 0; i < NUM_LENGTHS; i++)

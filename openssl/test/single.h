@@ -11,6 +11,7 @@
 #include <openssl/provider.h>
 #include <stdint.h>
 #include <stdio.h>
+#include <stdlib.h>
 #include <string.h>
 
 #define OURS "provider=yezdopin"
@@ -27,6 +28,23 @@ static int failures;
         }                                                          \
         ERR_clear_error();                                         \
     } while (0)
+
+/* Loads OpenSSL's own provider and the one of the folder of modules: a context with both. */
+static inline OSSL_LIB_CTX *with_both(const char *modules, OSSL_PROVIDER **loaded)
+{
+    OSSL_LIB_CTX *context = OSSL_LIB_CTX_new();
+    OSSL_PROVIDER_set_default_search_path(context, modules);
+    loaded[0] = OSSL_PROVIDER_load(context, "default");
+    loaded[1] = OSSL_PROVIDER_load(context, "yezdopin");
+    if (loaded[0] == NULL || loaded[1] == NULL) exit(2);
+    return context;
+}
+
+static inline void without_both(OSSL_LIB_CTX *context, OSSL_PROVIDER **loaded)
+{
+    CHECK(OSSL_PROVIDER_unload(loaded[1]) && OSSL_PROVIDER_unload(loaded[0]));
+    OSSL_LIB_CTX_free(context);
+}
 
 static inline EVP_MAC_CTX *new_hmac(OSSL_LIB_CTX *context, const char *properties)
 {

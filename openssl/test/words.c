@@ -64,16 +64,16 @@ static void sign_same(const OSSL_PARAM *words, const OSSL_PARAM *usual)
 /* Words whose parameters have a size that reaches past the 0, one that ends before it, or 0. */
 static void words(void)
 {
-    static char with_more[] = "SHA384\0 and more", mode_and_more[] = "EXPAND_ONLY and more";
-    static char sha384[] = "SHA384", expand[] = "expand_only", of_default[] = "provider=default";
-    const OSSL_PARAM usual[] = {WORD("digest", "SHA384"), WORD("mode", "EXPAND_ONLY"),
+    static char with_more[] = "SHA512\0 and more", mode_and_more[] = "EXPAND_ONLY and more";
+    static char sha512[] = "SHA512", expand[] = "expand_only", of_default[] = "provider=default";
+    const OSSL_PARAM usual[] = {WORD("digest", "SHA512"), WORD("mode", "EXPAND_ONLY"),
                                 OSSL_PARAM_END};
     const OSSL_PARAM ended[] = {sized("digest", with_more, sizeof with_more),
                                 sized("mode", mode_and_more, sizeof "EXPAND_ONLY" - 1),
                                 sized("properties", with_more + 6, 1), OSSL_PARAM_END};
-    const OSSL_PARAM unsized[] = {sized("digest", sha384, 0), sized("mode", expand, 0),
+    const OSSL_PARAM unsized[] = {sized("digest", sha512, 0), sized("mode", expand, 0),
                                   OSSL_PARAM_END};
-    const OSSL_PARAM by_default[] = {sized("digest", sha384, 0),
+    const OSSL_PARAM by_default[] = {sized("digest", sha512, 0),
                                      sized("properties", of_default, 0), sized("mode", expand, 0),
                                      OSSL_PARAM_END};
     const OSSL_PARAM *all[] = {ended, unsized, by_default};
@@ -87,9 +87,9 @@ static void words(void)
 /* Words that end where their memory does: a read behind it is seen under ASan and valgrind. */
 static void endless_words(void)
 {
-    const OSSL_PARAM usual[] = {WORD("digest", "SHA384"), WORD("mode", "EXTRACT_AND_EXPAND"),
+    const OSSL_PARAM usual[] = {WORD("digest", "SHA512"), WORD("mode", "EXTRACT_AND_EXPAND"),
                                 OSSL_PARAM_END};
-    OSSL_PARAM given[] = {endless("digest", "SHA384"), endless("mode", "EXTRACT_AND_EXPAND"),
+    OSSL_PARAM given[] = {endless("digest", "SHA512"), endless("mode", "EXTRACT_AND_EXPAND"),
                           endless("properties", "provider=default"), OSSL_PARAM_END};
     OSSL_PARAM wrong[] = {endless("mode", "EXTRACT"), OSSL_PARAM_END};
     EVP_KDF_CTX *it = new_kdf(both, "HKDF");
@@ -104,17 +104,12 @@ static void endless_words(void)
 
 int main(int argc, char **argv)
 {
-    OSSL_PROVIDER *ours, *theirs;
+    OSSL_PROVIDER *loaded[2];
     if (argc != 2) return 2;
-    both = OSSL_LIB_CTX_new();
-    OSSL_PROVIDER_set_default_search_path(both, argv[1]);
-    theirs = OSSL_PROVIDER_load(both, "default");
-    ours = OSSL_PROVIDER_load(both, "yezdopin");
-    if (theirs == NULL || ours == NULL) return 2;
+    both = with_both(argv[1], loaded);
     words();
     endless_words();
-    CHECK(OSSL_PROVIDER_unload(ours) && OSSL_PROVIDER_unload(theirs));
-    OSSL_LIB_CTX_free(both);
+    without_both(both, loaded);
     printf("words by their sizes and by their ends: %d failures\n", failures);
     return failures != 0;
 }

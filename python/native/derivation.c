@@ -2,6 +2,7 @@
  *
  * Keys that are derived: HKDF and PBKDF2. */
 #include "native.h"
+#include "rows.h"
 
 /* A derivation: its inputs, which are borrowed, and the object that it fills. */
 #define MOST_INPUTS 3
@@ -252,20 +253,8 @@ static PyObject *password_hash_verify(PyObject *Py_UNUSED(module), PyObject *con
 }
 
 /* The schemes of password hashes, by their names. */
-static const char *const SCHEMES[] = {
-    [YZ_DJANGO_SHA256] = "django-sha256",
-    [YZ_DJANGO_SHA1] = "django-sha1",
-    [YZ_WERKZEUG_SHA256] = "werkzeug-sha256",
-    [YZ_WERKZEUG_SHA512] = "werkzeug-sha512",
-    [YZ_PHC_SHA256] = "phc-sha256",
-    [YZ_PHC_SHA512] = "phc-sha512",
-    [YZ_MOSQUITTO] = "mosquitto",
-    [YZ_PASSLIB_SHA1] = "passlib-sha1",
-    [YZ_PASSLIB_SHA256] = "passlib-sha256",
-    [YZ_PASSLIB_SHA512] = "passlib-sha512",
-    [YZ_POSTGRESQL] = "postgresql",
-    [YZ_WERKZEUG_SHA1] = "werkzeug-sha1",
-};
+#define NAMED(scheme, name) [scheme] = name,
+static const char *const SCHEMES[] = {EACH_SCHEME(NAMED)};
 
 static bool scheme_of_name(PyObject *name, uint32_t *scheme)
 {
@@ -273,7 +262,7 @@ static bool scheme_of_name(PyObject *name, uint32_t *scheme)
         PyErr_SetString(PyExc_TypeError, "the scheme of a password hash must be a str");
         return false;
     }
-    for (uint32_t it = YZ_DJANGO_SHA256; it < sizeof SCHEMES / sizeof *SCHEMES; it++) {
+    for (uint32_t it = 1; it < sizeof SCHEMES / sizeof *SCHEMES; it++) {
         if (PyUnicode_CompareWithASCIIString(name, SCHEMES[it]) == 0) {
             *scheme = it;
             return true;

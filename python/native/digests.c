@@ -2,6 +2,7 @@
  *
  * The constructors of digests. */
 #include "native.h"
+#include "rows.h"
 
 /* The message is `data`, or `string`, which is hashlib's older name for it. */
 static PyObject *constructed(PyObject *module, uint32_t algorithm, PyObject *data, PyObject *string)
@@ -25,7 +26,7 @@ static PyObject *native_new(PyObject *module, PyObject *const *args, Py_ssize_t 
     return constructed(module, algorithm, values[1], values[2]);
 }
 
-#define CONSTRUCTOR(name, algorithm)                                                            \
+#define CONSTRUCTOR(algorithm, name, ...)                                                       \
     static PyObject *name(PyObject *module, PyObject *const *args, Py_ssize_t args_len,         \
                           PyObject *keywords)                                                   \
     {                                                                                           \
@@ -35,25 +36,16 @@ static PyObject *native_new(PyObject *module, PyObject *const *args, Py_ssize_t 
         return constructed(module, algorithm, values[0], values[1]);                            \
     }
 
-CONSTRUCTOR(sha1, YZ_SHA1)
-CONSTRUCTOR(sha256, YZ_SHA256)
-CONSTRUCTOR(sha384, YZ_SHA384)
-CONSTRUCTOR(sha512, YZ_SHA512)
-CONSTRUCTOR(sha512_256, YZ_SHA512_256)
+EACH_ALGORITHM(CONSTRUCTOR)
 
+#define CONSTRUCTED_BY(algorithm, name, ...) {algorithm, METHOD(name)},
 /* The algorithm whose constructor an object is, or 0. */
 uint32_t algorithm_of_constructor(PyObject *object)
 {
     static const struct {
         uint32_t algorithm;
         PyCFunction function;
-    } constructors[] = {
-        {YZ_SHA1, METHOD(sha1)},
-        {YZ_SHA256, METHOD(sha256)},
-        {YZ_SHA384, METHOD(sha384)},
-        {YZ_SHA512, METHOD(sha512)},
-        {YZ_SHA512_256, METHOD(sha512_256)},
-    };
+    } constructors[] = {EACH_ALGORITHM(CONSTRUCTED_BY)};
     if (!PyCFunction_Check(object)) return 0;
     PyCFunction function = PyCFunction_GetFunction(object);
     for (size_t i = 0; i < sizeof constructors / sizeof *constructors; i++) {
@@ -64,18 +56,12 @@ uint32_t algorithm_of_constructor(PyObject *object)
 
 #define TAKES "($module, /, data=b'', *, usedforsecurity=True, string=...)\n--\n\n"
 
+#define OFFERED(algorithm, name, says) {#name, METHOD(name), FAST, PyDoc_STR(#name TAKES says)},
 PyMethodDef digest_functions[] = {
     {"new", METHOD(native_new), FAST,
      PyDoc_STR("new($module, /, name, data=b'', *, usedforsecurity=True, string=...)\n--\n\n"
                "A digest under the algorithm of a name, as `hashlib.new`.")},
-    {"sha1", METHOD(sha1), FAST,
-     PyDoc_STR("sha1" TAKES
-               "SHA-1 (FIPS 180-4), which is broken: for what must still read old data.")},
-    {"sha256", METHOD(sha256), FAST, PyDoc_STR("sha256" TAKES "SHA-256 (FIPS 180-4).")},
-    {"sha384", METHOD(sha384), FAST, PyDoc_STR("sha384" TAKES "SHA-384 (FIPS 180-4).")},
-    {"sha512", METHOD(sha512), FAST, PyDoc_STR("sha512" TAKES "SHA-512 (FIPS 180-4).")},
-    {"sha512_256", METHOD(sha512_256), FAST,
-     PyDoc_STR("sha512_256" TAKES "SHA-512/256 (FIPS 180-4).")},
+    EACH_ALGORITHM(OFFERED)
     {"digest_each", METHOD(digest_each), FAST,
      PyDoc_STR("digest_each($module, /, name, messages)\n--\n\n"
                "The digests of several messages, each at its message's place, by one call.\n\n"

@@ -2,37 +2,18 @@
  *
  * The names of algorithms: those of hashlib, and those that OpenSSL has for the same. */
 #include "native.h"
+#include "rows.h"
 
 #include <string.h>
 
 #define LONGEST_NAME 24
 
+#define NAMED(algorithm, name, ...) {algorithm, #name},
+#define ALSO_NAMED(algorithm, name) {algorithm, name},
 static const struct {
     uint32_t algorithm;
     const char *name;
-} names[] = {
-    {YZ_SHA1, "sha1"},
-    {YZ_SHA256, "sha256"},
-    {YZ_SHA384, "sha384"},
-    {YZ_SHA512, "sha512"},
-    {YZ_SHA512_256, "sha512_256"},
-    {YZ_SHA1, "sha-1"},
-    {YZ_SHA1, "ssl3-sha1"},
-    {YZ_SHA1, "1.3.14.3.2.26"},
-    {YZ_SHA256, "sha-256"},
-    {YZ_SHA256, "sha2-256"},
-    {YZ_SHA256, "2.16.840.1.101.3.4.2.1"},
-    {YZ_SHA384, "sha-384"},
-    {YZ_SHA384, "sha2-384"},
-    {YZ_SHA384, "2.16.840.1.101.3.4.2.2"},
-    {YZ_SHA512, "sha-512"},
-    {YZ_SHA512, "sha2-512"},
-    {YZ_SHA512, "2.16.840.1.101.3.4.2.3"},
-    {YZ_SHA512_256, "sha512-256"},
-    {YZ_SHA512_256, "sha-512/256"},
-    {YZ_SHA512_256, "sha2-512/256"},
-    {YZ_SHA512_256, "2.16.840.1.101.3.4.2.6"},
-};
+} names[] = {EACH_ALGORITHM(NAMED) EACH_OTHER_NAME(ALSO_NAMED)};
 
 /* An algorithm's name, as hashlib has it. */
 const char *name_of(uint32_t algorithm)
@@ -82,11 +63,13 @@ bool algorithm_of(PyObject *name_or_constructor, uint32_t *algorithm)
     return false;
 }
 
-/* The same for HMAC. SHA-512/256 has digests alone. */
+#define CASE(algorithm) case algorithm:
+/* The same for HMAC, which not all algorithms have. */
 bool algorithm_of_tags(PyObject *name_or_constructor, uint32_t *algorithm)
 {
     if (!algorithm_of(name_or_constructor, algorithm)) return false;
-    if (*algorithm != YZ_SHA512_256) return true;
-    refuse_hash(name_or_constructor);
-    return false;
+    switch (*algorithm) {
+    EACH_KEYED(CASE) return true;
+    default: refuse_hash(name_or_constructor); return false;
+    }
 }

@@ -2,14 +2,16 @@
  *
  * Signed tokens and one-time passwords. */
 #include "native.h"
+#include "rows.h"
 
+#define NAMED(algorithm, name) {algorithm, name},
 /* The algorithms of tokens by their names, which never come from a token. */
 static bool algorithm_of_token(PyObject *name, uint32_t *algorithm)
 {
     static const struct {
         uint32_t algorithm;
         const char *name;
-    } known[] = {{YZ_SHA256, "HS256"}, {YZ_SHA384, "HS384"}, {YZ_SHA512, "HS512"}};
+    } known[] = {EACH_TOKEN(NAMED)};
     if (!PyUnicode_Check(name)) {
         PyErr_SetString(PyExc_TypeError, "the algorithm of a token must be a str");
         return false;

@@ -2,12 +2,19 @@
 """What the tests of the package's shape share."""
 
 import hashlib
+import pathlib
+import sys
 
 import yezdopin
 from yezdopin import hmac as tags
 
-NAMES = ["sha1", "sha256", "sha384", "sha512", "sha512_256"]
-SIGNING = NAMES[:4]
+ROOT = pathlib.Path(__file__).resolve().parents[2]
+sys.path += [str(ROOT / "tools"), str(ROOT / "tests/lib")]
+import rows
+
+NAMES = [it.name.lower() for it in rows.ALGORITHMS]
+SIGNING = [it.name.lower() for it in rows.KEYED]
+TOKENS = {it.token: it.name.lower() for it in rows.TOKENS}
 LONG = bytes(range(256)) * 64  # long enough for an update that lets other threads run
 
 

@@ -10,12 +10,11 @@ import random
 import unittest
 
 import yezdopin
+from shared import NAMES, SIGNING
 from yezdopin import hmac as tags
 
 TIMES = 4000
 VECTORS = pathlib.Path(__file__).resolve().parents[2] / "vectors"
-NAMES = ["sha1", "sha256", "sha384", "sha512", "sha512_256"]
-SIGNING = NAMES[:4]
 below = random.Random(7).randrange
 
 

@@ -1,11 +1,13 @@
 // SPDX-License-Identifier: ISC
 //! The calls as `yezdopin.h` declares them, and those statuses that are told apart.
 
+// statuses: made by tools/lists.py
 pub const YZ_OK: i32 = 0;
 pub const YZ_WRONG_LENGTH: i32 = 4;
 pub const YZ_BAD_FORMAT: i32 = 5;
 pub const YZ_TOO_MANY_ITERATIONS: i32 = 6;
 pub const YZ_BAD_SALT: i32 = 7;
+// /statuses
 
 /// What is held by plain bytes, any of which are a value of it.
 ///
@@ -79,6 +81,7 @@ pub fn clear_bytes(bytes: &mut [u8]) {
 }
 
 extern "C" {
+    // calls: made by tools/lists.py
     pub fn yz_version() -> u32;
     pub fn yz_digest(
         algorithm: u32,
@@ -299,4 +302,5 @@ extern "C" {
     ) -> i32;
     pub fn yz_equal(a: *const u8, a_len: usize, b: *const u8, b_len: usize) -> bool;
     fn yz_clear(bytes: *mut u8, bytes_len: usize);
+    // /calls
 }

@@ -17,22 +17,7 @@ pub const MAX_OUTPUT_LEN: usize = 64;
 /// The bytes of the longest chaining value, which FIPS 180-4 calls a hash value (section 6).
 pub const MAX_CHAINING_LEN: usize = MAX_OUTPUT_LEN;
 
-/// The bytes of a digest by SHA-1 (FIPS 180-4, section 6.1).
-pub const SHA1_OUTPUT_LEN: usize = 20;
-
-/// The bytes of a digest by SHA-256 (FIPS 180-4, section 6.2).
-pub const SHA256_OUTPUT_LEN: usize = 32;
-
-/// The bytes of a digest by SHA-384 (FIPS 180-4, section 6.5).
-pub const SHA384_OUTPUT_LEN: usize = 48;
-
-/// The bytes of a digest by SHA-512 (FIPS 180-4, section 6.4).
-pub const SHA512_OUTPUT_LEN: usize = 64;
-
-/// The bytes of a digest by SHA-512/256 (FIPS 180-4, section 6.7).
-pub const SHA512_256_OUTPUT_LEN: usize = 32;
-
-/// An algorithm: one of the five statics of this module. Debug gives its name, as `SHA256`.
+/// An algorithm: one of the statics of this module. Debug gives its name, as `SHA256`.
 #[derive(Clone, Copy, PartialEq, Eq)]
 pub struct Algorithm {
     pub(crate) number: u32,
@@ -65,33 +50,7 @@ impl fmt::Debug for Algorithm {
     }
 }
 
-macro_rules! algorithms {
-    ($(
-        $(#[$doc:meta])*
-        $name:ident $text:literal: $number:expr, $output:expr, $chaining:expr, $block:expr;
-    )*) => {
-        $($(#[$doc])* pub static $name: Algorithm = Algorithm {
-            number: $number,
-            output_len: $output,
-            chaining_len: $chaining,
-            block_len: $block,
-            name: $text,
-        };)*
-    };
-}
-
-algorithms! {
-    /// SHA-1 (FIPS 180-4, section 6.1), which is broken: for what must still read old data.
-    SHA1_FOR_LEGACY_USE_ONLY "SHA1": 1, SHA1_OUTPUT_LEN, 20, 64;
-    /// SHA-256 (FIPS 180-4, section 6.2).
-    SHA256 "SHA256": 2, SHA256_OUTPUT_LEN, 32, 64;
-    /// SHA-384 (FIPS 180-4, section 6.5).
-    SHA384 "SHA384": 3, SHA384_OUTPUT_LEN, 64, 128;
-    /// SHA-512 (FIPS 180-4, section 6.4).
-    SHA512 "SHA512": 4, SHA512_OUTPUT_LEN, 64, 128;
-    /// SHA-512/256 (FIPS 180-4, section 6.7).
-    SHA512_256 "SHA512_256": 5, SHA512_256_OUTPUT_LEN, 64, 128;
-}
+digest_algorithms!();
 
 /// A digest: as a slice, the bytes that its algorithm gives. Debug has its algorithm and its bytes
 /// in hex digits, as `SHA1:a9993e..`.

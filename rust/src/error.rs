@@ -11,7 +11,8 @@ pub struct Unspecified;
 
 impl fmt::Display for Unspecified {
     fn fmt(&self, f: &mut fmt::Formatter<'_>) -> fmt::Result {
-        f.write_str("yezdopin::error::Unspecified")
+        // As `ring` has it, since logs and tests compare it.
+        f.write_str("ring::error::Unspecified")
     }
 }
 

@@ -34,7 +34,7 @@ use core::fmt;
 // The most digests of an output (RFC 5869, section 2.3).
 const MAX_ROUNDS: usize = 255;
 
-/// An algorithm: one of the four statics of this module, HKDF over an HMAC algorithm.
+/// An algorithm: one of the statics of this module, HKDF over an HMAC algorithm.
 #[derive(Clone, Copy, Debug, PartialEq, Eq)]
 pub struct Algorithm(hmac::Algorithm);
 
@@ -49,18 +49,7 @@ impl Algorithm {
     }
 }
 
-/// HKDF over HMAC-SHA-1: for what must still read old data.
-pub static HKDF_SHA1_FOR_LEGACY_USE_ONLY: Algorithm =
-    Algorithm(hmac::HMAC_SHA1_FOR_LEGACY_USE_ONLY);
-
-/// HKDF over HMAC-SHA-256.
-pub static HKDF_SHA256: Algorithm = Algorithm(hmac::HMAC_SHA256);
-
-/// HKDF over HMAC-SHA-384.
-pub static HKDF_SHA384: Algorithm = Algorithm(hmac::HMAC_SHA384);
-
-/// HKDF over HMAC-SHA-512.
-pub static HKDF_SHA512: Algorithm = Algorithm(hmac::HMAC_SHA512);
+hkdf_algorithms!();
 
 /// What says how long an output is: algorithms, and types of the caller.
 // As in `ring`, it has no `is_empty`.
@@ -182,8 +171,8 @@ impl Prk {
         info: &'a [&'a [u8]],
         len: L,
     ) -> Result<Okm<'a, L>, Unspecified> {
-        let number = len.len();
-        if number > MAX_ROUNDS * self.algorithm.0.len() {
+        let len_cached = len.len();
+        if len_cached > MAX_ROUNDS * self.algorithm.0.len() {
             return Err(Unspecified);
         }
         let prk = self;
@@ -191,7 +180,7 @@ impl Prk {
             prk,
             info,
             len,
-            number,
+            len_cached,
         })
     }
 }
@@ -246,7 +235,8 @@ pub struct Okm<'a, L: KeyType> {
     prk: &'a Prk,
     info: &'a [&'a [u8]],
     len: L,
-    number: usize,
+    // The name stands in the text of Debug, which is `ring`'s.
+    len_cached: usize,
 }
 
 impl<L: KeyType> Okm<'_, L> {
@@ -258,7 +248,7 @@ impl<L: KeyType> Okm<'_, L> {
     /// Writes the output over the whole of `out`: refused where it has another length than was
     /// asked for, or PRK or info is past its limit, of about `2^61` bytes or more.
     pub fn fill(self, out: &mut [u8]) -> Result<(), Unspecified> {
-        if out.len() != self.number {
+        if out.len() != self.len_cached {
             return Err(Unspecified);
         }
         let (prk, info) = (&self.prk.value.0, self.info.concat());
@@ -278,7 +268,7 @@ impl<L: KeyType> Okm<'_, L> {
 
     // All bytes that were asked for.
     pub(crate) fn whole(self) -> Secret {
-        let mut value = Secret(vec![0; self.number]);
+        let mut value = Secret(vec![0; self.len_cached]);
         self.fill(&mut value.0)
             .expect("the info is within the limit");
         value

@@ -19,17 +19,17 @@
 //! use yezdopin::rand::SecureRandom;
 //! use yezdopin::{digest, hmac, rand};
 //!
-//! let mut key_value = [0; digest::SHA384_OUTPUT_LEN];
+//! let mut key_value = [0; digest::SHA256_OUTPUT_LEN];
 //! rand::SystemRandom::new().fill(&mut key_value)?;
 //!
-//! let signing_key = hmac::Key::new(hmac::HMAC_SHA384, &key_value);
+//! let signing_key = hmac::Key::new(hmac::HMAC_SHA256, &key_value);
 //! let mut context = hmac::Context::with_key(&signing_key);
 //! for piece in ["hello", ", ", "world"] {
 //!     context.update(piece.as_bytes());
 //! }
 //! let tag = context.sign();
 //!
-//! let verification_key = hmac::Key::new(hmac::HMAC_SHA384, &key_value);
+//! let verification_key = hmac::Key::new(hmac::HMAC_SHA256, &key_value);
 //! hmac::verify(&verification_key, b"hello, world", tag.as_ref())?;
 //! # Ok::<(), yezdopin::error::Unspecified>(())
 //! ```
@@ -40,7 +40,7 @@ use crate::error::Unspecified;
 use crate::{done, hkdf, rand};
 use core::fmt;
 
-/// An algorithm: one of the four statics of this module, HMAC over a digest algorithm.
+/// An algorithm: one of the statics of this module, HMAC over a digest algorithm.
 #[derive(Clone, Copy, Debug, PartialEq, Eq)]
 pub struct Algorithm(&'static digest::Algorithm);
 
@@ -51,17 +51,7 @@ impl Algorithm {
     }
 }
 
-/// HMAC over SHA-1: for what must still read old data.
-pub static HMAC_SHA1_FOR_LEGACY_USE_ONLY: Algorithm = Algorithm(&digest::SHA1_FOR_LEGACY_USE_ONLY);
-
-/// HMAC over SHA-256.
-pub static HMAC_SHA256: Algorithm = Algorithm(&digest::SHA256);
-
-/// HMAC over SHA-384.
-pub static HMAC_SHA384: Algorithm = Algorithm(&digest::SHA384);
-
-/// HMAC over SHA-512.
-pub static HMAC_SHA512: Algorithm = Algorithm(&digest::SHA512);
+hmac_algorithms!();
 
 /// A tag: as a slice, as many bytes as a digest of its algorithm has.
 #[derive(Clone, Copy, Debug)]

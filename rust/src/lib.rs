@@ -28,6 +28,9 @@ extern crate alloc;
 #[cfg(feature = "std")]
 extern crate std;
 
+#[macro_use]
+mod rows;
+
 mod calls;
 pub mod constant_time;
 pub mod digest;

@@ -106,11 +106,13 @@ impl fmt::Display for HashError {
     fn fmt(&self, f: &mut fmt::Formatter<'_>) -> fmt::Result {
         f.write_str(match self {
             HashError::TextTooLong => "the text of a password hash is too long",
-            HashError::BadFormat => "not a password hash",
-            HashError::TooManyIterations => "too many iterations",
+            // texts: made by tools/lists.py
+            HashError::BadFormat => "no password hash has the text",
+            HashError::TooManyIterations => "the text has more iterations than the caller takes",
+            HashError::BadSalt => "a new password hash can't have the salt",
+            // /texts
             HashError::WrongPassword => "wrong password",
             HashError::NoRoom => "no room for the text",
-            HashError::BadSalt => "a password hash of this scheme cannot have this salt",
             HashError::TooLong => "the password or the salt is too long",
         })
     }
@@ -132,6 +134,7 @@ impl std::error::Error for HashError {}
 #[derive(Clone, Copy, Debug, PartialEq, Eq)]
 #[non_exhaustive]
 pub enum Scheme {
+    // variants: made by tools/lists.py
     /// Django's `PBKDF2PasswordHasher`.
     DjangoSha256 = 1,
     /// Django's `PBKDF2SHA1PasswordHasher`.
@@ -156,9 +159,11 @@ pub enum Scheme {
     Postgresql = 11,
     /// Werkzeug's `pbkdf2:sha1`.
     WerkzeugSha1 = 12,
+    // /variants
 }
 
 /// All schemes, by their numbers.
+// schemes: made by tools/lists.py
 pub const SCHEMES: [Scheme; 12] = [
     Scheme::DjangoSha256,
     Scheme::DjangoSha1,
@@ -173,12 +178,14 @@ pub const SCHEMES: [Scheme; 12] = [
     Scheme::Postgresql,
     Scheme::WerkzeugSha1,
 ];
+// /schemes
 
 impl Scheme {
     /// The name: `django-sha256`, `postgresql`.
     pub fn name(self) -> &'static str {
         use Scheme::*;
         match self {
+            // names: made by tools/lists.py
             DjangoSha256 => "django-sha256",
             DjangoSha1 => "django-sha1",
             WerkzeugSha256 => "werkzeug-sha256",
@@ -191,6 +198,7 @@ impl Scheme {
             PasslibSha512 => "passlib-sha512",
             Postgresql => "postgresql",
             WerkzeugSha1 => "werkzeug-sha1",
+            // /names
         }
     }
 

@@ -16,21 +16,11 @@ use crate::error::Unspecified;
 use crate::{calls, digest, done};
 use core::num::NonZeroU32;
 
-/// An algorithm: one of the four statics of this module, PBKDF2 over an HMAC algorithm.
+/// An algorithm: one of the statics of this module, PBKDF2 over an HMAC algorithm.
 #[derive(Clone, Copy, Debug, PartialEq, Eq)]
 pub struct Algorithm(&'static digest::Algorithm);
 
-/// PBKDF2 over HMAC-SHA-1.
-pub static PBKDF2_HMAC_SHA1: Algorithm = Algorithm(&digest::SHA1_FOR_LEGACY_USE_ONLY);
-
-/// PBKDF2 over HMAC-SHA-256.
-pub static PBKDF2_HMAC_SHA256: Algorithm = Algorithm(&digest::SHA256);
-
-/// PBKDF2 over HMAC-SHA-384.
-pub static PBKDF2_HMAC_SHA384: Algorithm = Algorithm(&digest::SHA384);
-
-/// PBKDF2 over HMAC-SHA-512.
-pub static PBKDF2_HMAC_SHA512: Algorithm = Algorithm(&digest::SHA512);
+pbkdf2_algorithms!();
 
 /// Fills `out` with the key that is derived from `secret`, for each digest of it as many HMACs as
 /// `iterations` says.

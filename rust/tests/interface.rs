@@ -2,6 +2,10 @@
 //! What callers of `ring` write beside the calls that vectors/ tries: random keys and values,
 //! errors of their own, sources and contexts in other threads, texts.
 
+#[path = "shared/algorithms.rs"]
+mod algorithms;
+
+use algorithms::{all_keyed, digests};
 use std::convert::TryFrom;
 use std::fmt::Debug;
 use std::time::{Duration, Instant};
@@ -39,12 +43,7 @@ fn may_cross_threads<T: Send + Sync>() {}
 #[test]
 fn random_keys() {
     let rng = SystemRandom::new();
-    for algorithm in [
-        hmac::HMAC_SHA1_FOR_LEGACY_USE_ONLY,
-        hmac::HMAC_SHA256,
-        hmac::HMAC_SHA384,
-        hmac::HMAC_SHA512,
-    ] {
+    for algorithm in all_keyed().iter().map(|it| it.hmac) {
         let key = hmac::Key::generate(algorithm, &rng).unwrap();
         let other = hmac::Key::generate(algorithm, &rng.clone()).unwrap();
         assert!(key.algorithm() == algorithm);
@@ -72,25 +71,31 @@ fn errors() {
     assert_eq!(front_of(b"four"), Ok(*b"four"));
     assert_eq!(front_of(b"three"), Err(Unspecified));
     let boxed: Box<dyn std::error::Error + Send + Sync> = Unspecified.into();
-    assert_eq!(boxed.to_string(), "yezdopin::error::Unspecified");
+    assert_eq!(boxed.to_string(), "ring::error::Unspecified");
 }
 
 #[test]
 fn texts() {
-    prints(&digest::SHA1_FOR_LEGACY_USE_ONLY, "SHA1");
-    prints(&digest::SHA256, "SHA256");
-    prints(&digest::SHA384, "SHA384");
-    prints(&digest::SHA512, "SHA512");
-    prints(&digest::SHA512_256, "SHA512_256");
-    prints(&hmac::HMAC_SHA1_FOR_LEGACY_USE_ONLY, "Algorithm(SHA1)");
-    prints(&hkdf::HKDF_SHA384, "Algorithm(Algorithm(SHA384))");
+    for (name, algorithm, _) in digests() {
+        prints(algorithm, name);
+    }
+    for it in all_keyed() {
+        prints(&it.hmac, &format!("Algorithm({})", it.name));
+        prints(&it.hkdf, &format!("Algorithm(Algorithm({}))", it.name));
+    }
     let key = hmac::Key::new(hmac::HMAC_SHA256, b"a secret");
     prints(&key, "Key { algorithm: SHA256 }");
     let context = hmac::Context::with_key(&key);
     prints(&context, "Context { algorithm: SHA256 }");
     let salt = hkdf::Salt::new(hkdf::HKDF_SHA512, b"a salt");
     prints(&salt, "Salt(Key { algorithm: SHA512 })");
-    prints(&salt.extract(b"a secret"), "Prk(Key { algorithm: SHA512 })");
+    let prk = salt.extract(b"a secret");
+    prints(&prk, "Prk(Key { algorithm: SHA512 })");
+    prints(
+        &prk.expand(&[b"a"], hmac::HMAC_SHA256).unwrap(),
+        "Okm { prk: Prk(Key { algorithm: SHA512 }), info: [[97]], len: Algorithm(SHA256), \
+         len_cached: 32 }",
+    );
     prints(&SystemRandom::new(), "SystemRandom(())");
 }
 
@@ -171,7 +176,7 @@ fn refused_password_hashes() {
         Err(HashError::TextTooLong)
     );
     prints(&HashError::WrongPassword, "WrongPassword");
-    assert_eq!(HashError::BadFormat.to_string(), "not a password hash");
+    assert_eq!(HashError::BadFormat.to_string(), "no password hash has the text");
 }
 
 #[test]

@@ -258,7 +258,14 @@ fn short_keys_of_passwords() {
                 assert_eq!(boxed.to_string(), said);
             }
         }
-        let key = otp::Key::of_any_length(algorithm, value);
+        let key = match otp::Key::of_any_length(algorithm, value) {
+            Ok(key) => key,
+            Err(otp::ShortKey) => {
+                assert_eq!(len, 0);
+                continue;
+            }
+        };
+        assert!(len > 0);
         let password = otp::hotp(&key, 7, Digits::Six);
         let message = 7u64.to_be_bytes();
         let tag = hmac::sign(&hmac::Key::new(algorithm, value), &message);

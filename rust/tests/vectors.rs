@@ -2,21 +2,19 @@
 //! The lines of vectors/, whose answers come from standards and from other implementations, and
 //! what they don't show: copies, keys that are made of outputs, comparison.
 
+#[path = "shared/algorithms.rs"]
+mod algorithms;
+#[path = "shared/values.rs"]
+mod values;
+
+use algorithms::{all_keyed, digest_named, digests, keyed_named, Length};
 use std::num::NonZeroU32;
+use values::bytes;
 use yezdopin::constant_time::verify_slices_are_equal;
 use yezdopin::error::Unspecified;
 use yezdopin::{digest, hkdf, hmac, pbkdf2};
 
 const FOLDER: &str = concat!(env!("CARGO_MANIFEST_DIR"), "/../vectors");
-
-// A number of bytes.
-struct Length(usize);
-
-impl hkdf::KeyType for Length {
-    fn len(&self) -> usize {
-        self.0
-    }
-}
 
 fn hex(bytes: &[u8]) -> String {
     match bytes {
@@ -25,51 +23,12 @@ fn hex(bytes: &[u8]) -> String {
     }
 }
 
-fn bytes(hex: &str) -> Vec<u8> {
-    let digits = if hex == "-" { "" } else { hex };
-    let pairs = (0..digits.len()).step_by(2);
-    pairs
-        .map(|at| u8::from_str_radix(&digits[at..at + 2], 16).unwrap())
-        .collect()
-}
-
 fn pieces(field: &str) -> Vec<Vec<u8>> {
     field.split(',').map(bytes).collect()
 }
 
-fn digest_named(name: &str) -> &'static digest::Algorithm {
-    match name {
-        "SHA1" => &digest::SHA1_FOR_LEGACY_USE_ONLY,
-        "SHA256" => &digest::SHA256,
-        "SHA384" => &digest::SHA384,
-        "SHA512" => &digest::SHA512,
-        "SHA512_256" => &digest::SHA512_256,
-        _ => panic!("{name}"),
-    }
-}
-
-fn hkdf_named(name: &str) -> hkdf::Algorithm {
-    match name {
-        "SHA1" => hkdf::HKDF_SHA1_FOR_LEGACY_USE_ONLY,
-        "SHA256" => hkdf::HKDF_SHA256,
-        "SHA384" => hkdf::HKDF_SHA384,
-        "SHA512" => hkdf::HKDF_SHA512,
-        _ => panic!("{name}"),
-    }
-}
-
-fn pbkdf2_named(name: &str) -> pbkdf2::Algorithm {
-    match name {
-        "SHA1" => pbkdf2::PBKDF2_HMAC_SHA1,
-        "SHA256" => pbkdf2::PBKDF2_HMAC_SHA256,
-        "SHA384" => pbkdf2::PBKDF2_HMAC_SHA384,
-        "SHA512" => pbkdf2::PBKDF2_HMAC_SHA512,
-        _ => panic!("{name}"),
-    }
-}
-
 fn key_named(name: &str, value: &str) -> hmac::Key {
-    hmac::Key::new(hkdf_named(name).hmac_algorithm(), &bytes(value))
+    hmac::Key::new(keyed_named(name).hmac, &bytes(value))
 }
 
 fn verdict(result: Result<(), Unspecified>) -> String {
@@ -100,7 +59,7 @@ fn tag_of(name: &str, key: &str, field: &str) -> String {
 }
 
 fn output_of(name: &str, salt: &str, secret: &str, info: &str, len: &str) -> String {
-    let prk = hkdf::Salt::new(hkdf_named(name), &bytes(salt)).extract(&bytes(secret));
+    let prk = hkdf::Salt::new(keyed_named(name).hkdf, &bytes(salt)).extract(&bytes(secret));
     let info = pieces(info);
     let info: Vec<&[u8]> = info.iter().map(|piece| &piece[..]).collect();
     let mut out = vec![0; len.parse().unwrap()];
@@ -112,7 +71,7 @@ fn output_of(name: &str, salt: &str, secret: &str, info: &str, len: &str) -> Str
 }
 
 fn labelled_of(name: &str, secret: &str, label: &str, context: &str, len: &str) -> String {
-    let prk = hkdf::Prk::new_less_safe(hkdf_named(name), &bytes(secret));
+    let prk = hkdf::Prk::new_less_safe(keyed_named(name).hkdf, &bytes(secret));
     let mut out = vec![0; len.parse().unwrap()];
     prk.expand_label(&bytes(label), &bytes(context), &mut out)
         .unwrap();
@@ -123,7 +82,7 @@ fn derived_of(name: &str, iterations: &str, secret: &str, salt: &str, len: &str)
     let iterations: NonZeroU32 = iterations.parse().unwrap();
     let mut out = vec![0; len.parse().unwrap()];
     pbkdf2::derive(
-        pbkdf2_named(name),
+        keyed_named(name).pbkdf2,
         iterations,
         &bytes(salt),
         &bytes(secret),
@@ -136,7 +95,7 @@ fn derived_is(name: &str, iterations: &str, secret: &str, salt: &str, value: &st
     let iterations: NonZeroU32 = iterations.parse().unwrap();
     let (salt, secret) = (bytes(salt), bytes(secret));
     verdict(pbkdf2::verify(
-        pbkdf2_named(name),
+        keyed_named(name).pbkdf2,
         iterations,
         &salt,
         &secret,
@@ -221,16 +180,16 @@ fn digests_of_several_messages() {
             }
         }
     }
-    for name in ["SHA1", "SHA256", "SHA384", "SHA512", "SHA512_256"] {
+    for (name, algorithm, _) in digests() {
         let lines: Vec<_> = lines.iter().filter(|line| line.0 == name).collect();
         assert!(lines.len() > 4);
         for count in [0, 1, 3, 4, 5, lines.len()] {
             let messages: Vec<&[u8]> = lines[..count].iter().map(|line| &line.1[..]).collect();
             let mut digests = vec![digest::digest(&digest::SHA512, b"another"); count];
-            digest::digest_each(digest_named(name), &messages, &mut digests).unwrap();
+            digest::digest_each(algorithm, &messages, &mut digests).unwrap();
             for (made, line) in digests.iter().zip(&lines) {
                 assert_eq!(hex(made.as_ref()), line.2);
-                assert!(made.algorithm() == digest_named(name));
+                assert!(made.algorithm() == algorithm);
             }
         }
     }
@@ -245,9 +204,9 @@ fn digests_of_several_messages() {
 
 #[test]
 fn labels_within_their_limits() {
-    for name in ["SHA1", "SHA256", "SHA384", "SHA512"] {
-        let prk = hkdf::Prk::new_less_safe(hkdf_named(name), b"some bytes");
-        let most = 255 * hkdf::KeyType::len(&hkdf_named(name));
+    for it in all_keyed() {
+        let prk = hkdf::Prk::new_less_safe(it.hkdf, b"some bytes");
+        let most = 255 * hkdf::KeyType::len(&it.hkdf);
         let (label, context, mut out) = (vec![7; 250], vec![7; 256], vec![7; most + 1]);
         for (label, context, len) in [
             (&label[..0], &context[..0], 32),
@@ -268,10 +227,10 @@ fn labels_within_their_limits() {
 #[test]
 fn copies_go_on_by_themselves() {
     let message: Vec<u8> = (0..1000u32).map(|number| number as u8).collect();
-    for name in ["SHA1", "SHA256", "SHA384", "SHA512"] {
-        let whole = digest::digest(digest_named(name), &message);
-        let key = key_named(name, "0b0b");
-        let mut context = digest::Context::new(digest_named(name));
+    for it in all_keyed() {
+        let whole = digest::digest(it.digest, &message);
+        let key = hmac::Key::new(it.hmac, b"key");
+        let mut context = digest::Context::new(it.digest);
         let mut tags = hmac::Context::with_key(&key);
         for piece in message.chunks(37) {
             context.update(piece);
@@ -288,59 +247,43 @@ fn copies_go_on_by_themselves() {
     }
 }
 
+// What a PRK gives for an info, which is passed in pieces.
+fn expanded(prk: &hkdf::Prk, info: &[&[u8]], len: usize) -> Vec<u8> {
+    let mut out = vec![0; len];
+    let okm = prk.expand(info, Length(len)).unwrap();
+    okm.fill(&mut out).unwrap();
+    out
+}
+
 #[test]
 fn keys_of_outputs() {
-    let prk = hkdf::Prk::new_less_safe(hkdf::HKDF_SHA384, b"some bytes");
-    let mut value = [0; 48];
-    prk.expand(&[b"in", b"fo"], Length(48))
-        .unwrap()
-        .fill(&mut value)
-        .unwrap();
-    let key = hmac::Key::from(prk.expand(&[b"info"], hmac::HMAC_SHA384).unwrap());
-    let plain = hmac::Key::new(hmac::HMAC_SHA384, &value);
-    assert_eq!(
-        hmac::sign(&key, b"message").as_ref(),
-        hmac::sign(&plain, b"message").as_ref()
-    );
-    let salt = hkdf::Salt::from(prk.expand(&[b"info"], hkdf::HKDF_SHA384).unwrap());
-    let plain = hkdf::Salt::new(hkdf::HKDF_SHA384, &value);
-    let (mut left, mut right) = ([0; 9], [0; 9]);
-    salt.extract(b"secret")
-        .expand(&[], Length(9))
-        .unwrap()
-        .fill(&mut left)
-        .unwrap();
-    plain
-        .extract(b"secret")
-        .expand(&[], Length(9))
-        .unwrap()
-        .fill(&mut right)
-        .unwrap();
-    assert_eq!(left, right);
-    assert!(prk
-        .expand(&[], Length(9))
-        .unwrap()
-        .fill(&mut [0; 8])
-        .is_err());
-    assert!(prk
-        .expand(&[], Length(9))
-        .unwrap()
-        .fill(&mut [0; 10])
-        .is_err());
-    assert!(prk.expand(&[], Length(255 * 48 + 1)).is_err());
+    for it in all_keyed() {
+        let prk = hkdf::Prk::new_less_safe(it.hkdf, b"some bytes");
+        let len = it.digest.output_len();
+        let value = expanded(&prk, &[b"in", b"fo"], len);
+        let key = hmac::Key::from(prk.expand(&[b"info"], it.hmac).unwrap());
+        let plain = hmac::Key::new(it.hmac, &value);
+        assert_eq!(
+            hmac::sign(&key, b"message").as_ref(),
+            hmac::sign(&plain, b"message").as_ref()
+        );
+        let salt = hkdf::Salt::from(prk.expand(&[b"info"], it.hkdf).unwrap());
+        let plain = hkdf::Salt::new(it.hkdf, &value);
+        assert_eq!(
+            expanded(&salt.extract(b"secret"), &[], 9),
+            expanded(&plain.extract(b"secret"), &[], 9)
+        );
+        for other in [8, 10] {
+            let okm = prk.expand(&[], Length(9)).unwrap();
+            assert!(okm.fill(&mut vec![0; other]).is_err());
+        }
+        assert!(prk.expand(&[], Length(255 * len + 1)).is_err());
+    }
 }
 
 #[test]
 fn lengths() {
-    // FIPS 180-4, figure 1.
-    for (name, output_len, chaining_len, block_len) in [
-        ("SHA1", digest::SHA1_OUTPUT_LEN, 20, 64),
-        ("SHA256", digest::SHA256_OUTPUT_LEN, 32, 64),
-        ("SHA384", digest::SHA384_OUTPUT_LEN, 64, 128),
-        ("SHA512", digest::SHA512_OUTPUT_LEN, 64, 128),
-        ("SHA512_256", digest::SHA512_256_OUTPUT_LEN, 64, 128),
-    ] {
-        let algorithm = digest_named(name);
+    for (_, algorithm, [output_len, chaining_len, block_len]) in digests() {
         assert_eq!(algorithm.output_len(), output_len);
         assert_eq!(algorithm.chaining_len(), chaining_len);
         assert_eq!(algorithm.block_len(), block_len);

@@ -2,10 +2,17 @@
 //! The table of tests/verifications, the file VERIFICATIONS: each call in all ways that the crate
 //! has for it, which must agree, beside the answer below the call.
 
-use std::collections::{BTreeSet, HashMap};
+#[path = "shared/algorithms.rs"]
+mod algorithms;
+#[path = "shared/values.rs"]
+mod values;
+
+use algorithms::{keyed_named, token_named};
+use std::collections::BTreeSet;
 use std::fmt::Debug;
 use std::num::NonZeroU32;
 use std::str;
+use values::Values;
 use yezdopin::constant_time::verify_slices_are_equal;
 use yezdopin::tokens::{jws, otp};
 use yezdopin::{hmac, merkle, password_hash, pbkdf2};
@@ -28,80 +35,14 @@ const WORDS: [&str; 9] = [
 ];
 const OTHER_LENGTHS: &str = "-of-other-lengths";
 
-fn bytes(hex: &str) -> Vec<u8> {
-    let digits = hex.trim_start_matches('-');
-    let pairs = (0..digits.len()).step_by(2);
-    pairs
-        .map(|at| u8::from_str_radix(&digits[at..at + 2], 16).unwrap())
-        .collect()
+fn hash(values: &Values, field: &str) -> merkle::Hash {
+    values.of(field).try_into().unwrap()
 }
 
-// The bytes that lines name.
-#[derive(Default)]
-struct Values(HashMap<String, Vec<u8>>);
-
-impl Values {
-    // The bytes of a field: hex digits, or named ones with an edit.
-    fn of(&self, field: &str) -> Vec<u8> {
-        let rest = match field.strip_prefix('@') {
-            Some(rest) => rest,
-            None => return bytes(field),
-        };
-        let end = rest.find(&['=', '<', '>', '+'][..]).unwrap_or(rest.len());
-        let (name, edit) = rest.split_at(end);
-        let value = &self.0[name];
-        match edit.chars().next() {
-            None => value.clone(),
-            Some('<') => value[..edit[1..].parse().unwrap()].to_vec(),
-            Some('>') => value[edit[1..].parse().unwrap()..].to_vec(),
-            Some('+') => [&value[..], &bytes(&edit[1..])].concat(),
-            _ => {
-                let (at, byte) = edit[1..].split_once(':').unwrap();
-                let mut changed = value.clone();
-                changed[at.parse::<usize>().unwrap()] = bytes(byte)[0];
-                changed
-            }
-        }
-    }
-
-    fn hash(&self, field: &str) -> merkle::Hash {
-        self.of(field).try_into().unwrap()
-    }
-
-    fn hashes(&self, field: &str) -> Vec<merkle::Hash> {
-        let bytes = self.of(field);
-        let all = bytes.chunks(merkle::HASH_LEN);
-        all.map(|it| it.try_into().unwrap()).collect()
-    }
-}
-
-fn tag_named(name: &str) -> hmac::Algorithm {
-    match name {
-        "SHA1" => hmac::HMAC_SHA1_FOR_LEGACY_USE_ONLY,
-        "SHA256" => hmac::HMAC_SHA256,
-        "SHA384" => hmac::HMAC_SHA384,
-        "SHA512" => hmac::HMAC_SHA512,
-        _ => panic!("{name}"),
-    }
-}
-
-fn pbkdf2_named(name: &str) -> pbkdf2::Algorithm {
-    match name {
-        "SHA1" => pbkdf2::PBKDF2_HMAC_SHA1,
-        "SHA256" => pbkdf2::PBKDF2_HMAC_SHA256,
-        "SHA384" => pbkdf2::PBKDF2_HMAC_SHA384,
-        "SHA512" => pbkdf2::PBKDF2_HMAC_SHA512,
-        _ => panic!("{name}"),
-    }
-}
-
-fn token_named(name: &str) -> jws::Alg {
-    match name {
-        "HS256" => jws::Alg::Hs256,
-        "HS384" => jws::Alg::Hs384,
-        "HS512" => jws::Alg::Hs512,
-        _ => panic!("{name}"),
-    }
+fn hashes(values: &Values, field: &str) -> Vec<merkle::Hash> {
+    let bytes = values.of(field);
+    let all = bytes.chunks(merkle::HASH_LEN);
+    all.map(|it| it.try_into().unwrap()).collect()
 }
 
 fn digits_of(field: &str) -> otp::Digits {
@@ -131,7 +72,7 @@ fn verdict(is_right: bool) -> String {
 }
 
 fn hmac_verify(values: &Values, fields: &[&str]) -> bool {
-    let key = hmac::Key::new(tag_named(fields[0]), &values.of(fields[1]));
+    let key = hmac::Key::new(keyed_named(fields[0]).hmac, &values.of(fields[1]));
     let (message, tag) = (values.of(fields[2]), values.of(fields[3]));
     let mut context = hmac::Context::with_key(&key);
     let (first, rest) = message.split_at(message.len() / 3);
@@ -147,7 +88,8 @@ fn pbkdf2_verify(values: &Values, fields: &[&str]) -> bool {
     let iterations: NonZeroU32 = number(fields[1]);
     let (secret, salt) = (values.of(fields[2]), values.of(fields[3]));
     let value = values.of(fields[4]);
-    pbkdf2::verify(pbkdf2_named(fields[0]), iterations, &salt, &secret, &value).is_ok()
+    let algorithm = keyed_named(fields[0]).pbkdf2;
+    pbkdf2::verify(algorithm, iterations, &salt, &secret, &value).is_ok()
 }
 
 // The payload, by both calls. Text that is no UTF-8 and a short key can't be given to them.
@@ -168,7 +110,7 @@ fn jws_verify(values: &Values, fields: &[&str]) -> Option<Vec<u8>> {
 
 fn hotp_find(values: &Values, fields: &[&str]) -> Option<u64> {
     let (value, text) = (values.of(fields[1]), values.of(fields[5]));
-    let key = otp::Key::of_any_length(tag_named(fields[0]), &value);
+    let key = otp::Key::of_any_length(keyed_named(fields[0]).hmac, &value).ok()?;
     let (first, count) = (number(fields[2]), number(fields[3]));
     let text = str::from_utf8(&text).ok()?;
     otp::find_hotp(&key, first, count, digits_of(fields[4]), text)
@@ -176,7 +118,7 @@ fn hotp_find(values: &Values, fields: &[&str]) -> Option<u64> {
 
 fn totp_find(values: &Values, fields: &[&str]) -> Option<u64> {
     let (value, text) = (values.of(fields[1]), values.of(fields[7]));
-    let key = otp::Key::of_any_length(tag_named(fields[0]), &value);
+    let key = otp::Key::of_any_length(keyed_named(fields[0]).hmac, &value).ok()?;
     let (time, step) = (number(fields[2]), number(fields[3]));
     let (back, ahead) = (number(fields[4]), number(fields[5]));
     let text = str::from_utf8(&text).ok()?;
@@ -184,15 +126,15 @@ fn totp_find(values: &Values, fields: &[&str]) -> Option<u64> {
 }
 
 fn merkle_inclusion(values: &Values, fields: &[&str]) -> bool {
-    let (hash, root) = (values.hash(fields[0]), values.hash(fields[4]));
+    let (leaf, root) = (hash(values, fields[0]), hash(values, fields[4]));
     let (index, size) = (number(fields[1]), number(fields[2]));
-    merkle::verify_inclusion(&hash, index, size, &values.hashes(fields[3]), &root).is_ok()
+    merkle::verify_inclusion(&leaf, index, size, &hashes(values, fields[3]), &root).is_ok()
 }
 
 fn merkle_consistency(values: &Values, fields: &[&str]) -> bool {
-    let (first, second) = (values.hash(fields[1]), values.hash(fields[3]));
+    let (first, second) = (hash(values, fields[1]), hash(values, fields[3]));
     let (small, great) = (number(fields[0]), number(fields[2]));
-    let path = values.hashes(fields[4]);
+    let path = hashes(values, fields[4]);
     merkle::verify_consistency(small, &first, great, &second, &path).is_ok()
 }
 
@@ -238,8 +180,7 @@ fn each_call_of_the_table() {
     for line in text.lines() {
         let fields: Vec<&str> = last.split(' ').collect();
         if let Some(named) = line.strip_prefix("let ") {
-            let (name, digits) = named.split_once(' ').unwrap();
-            values.0.insert(name.to_string(), bytes(digits));
+            values.take(named);
         } else if let Some(wanted) = line.strip_prefix("#= ") {
             if fields[0].ends_with(OTHER_LENGTHS) {
                 continue;

@@ -2,101 +2,32 @@
 //! What a key, a context, a salt and a PRK leave in the memory that they free, and what each call
 //! leaves there that is given a secret: an allocator looks at each block before it takes it back.
 
-use std::alloc::{GlobalAlloc, Layout, System};
-use std::mem::size_of;
+#[path = "shared/algorithms.rs"]
+mod algorithms;
+#[path = "shared/freed.rs"]
+mod freed;
+
+use algorithms::{all_keyed, Length};
+use freed::{freed_with_secret, wiped, MADE, MASK, SECRET};
 use std::num::NonZeroU32;
-use std::sync::atomic::{AtomicBool, AtomicUsize, Ordering::SeqCst};
 use std::sync::{Mutex, MutexGuard};
 use yezdopin::tokens::{jws, otp};
 use yezdopin::{digest, hkdf, hmac, password_hash, pbkdf2};
 
-const MOST: usize = 512;
-const SECRET: [u8; 48] = *b"a secret of this test, which nothing else has..!";
-
-// The block that is looked at, what it had when it was freed, and how many blocks had the secret.
-static WATCHED: AtomicUsize = AtomicUsize::new(0);
-static SEEN: Mutex<[u8; MOST]> = Mutex::new([0; MOST]);
-static IS_ARMED: AtomicBool = AtomicBool::new(false);
-static WITH_SECRET: AtomicUsize = AtomicUsize::new(0);
-// What is looked for beside the secret: a value that a call makes of it, masked.
-static MADE: Mutex<[u8; 48]> = Mutex::new([0; 48]);
-const MASK: u8 = 0x5a;
 // One test at a time.
 static TURN: Mutex<()> = Mutex::new(());
-
-// The secret is found by any of its parts of so many bytes.
-const PART: usize = 8;
-
-fn has_part(bytes: &[u8]) -> bool {
-    let made = *MADE.lock().unwrap();
-    let is_part = |it: &[u8]| {
-        let is_of_made = |part: &[u8]| part.iter().zip(it).all(|(a, b)| *a == *b ^ MASK);
-        SECRET.windows(PART).any(|part| part == it) || made.windows(PART).any(is_of_made)
-    };
-    bytes.windows(PART).any(is_part)
-}
-
-struct Watching;
-
-// SAFETY: each call is the system's.
-unsafe impl GlobalAlloc for Watching {
-    unsafe fn alloc(&self, layout: Layout) -> *mut u8 {
-        System.alloc(layout)
-    }
-
-    unsafe fn dealloc(&self, block: *mut u8, layout: Layout) {
-        let bytes = std::slice::from_raw_parts(block, layout.size());
-        if block as usize == WATCHED.load(SeqCst) {
-            SEEN.lock().unwrap()[..bytes.len()].copy_from_slice(bytes);
-        }
-        if IS_ARMED.load(SeqCst) && has_part(bytes) {
-            WITH_SECRET.fetch_add(1, SeqCst);
-        }
-        System.dealloc(block, layout)
-    }
-}
-
-#[global_allocator]
-static ALLOCATOR: Watching = Watching;
 
 fn turn() -> MutexGuard<'static, ()> {
     TURN.lock().unwrap_or_else(|it| it.into_inner())
 }
 
-// Drops a value, and tells how many of its bytes the drop changed, all of which must be zeros then.
-fn wiped<T>(value: T) -> usize {
-    let boxed = Box::new(value);
-    let address: *const T = &*boxed;
-    // SAFETY: the value has no bytes between its fields that are read as anything but bytes.
-    let before = unsafe { std::slice::from_raw_parts(address.cast::<u8>(), size_of::<T>()) };
-    let before = before.to_vec();
-    WATCHED.store(address as usize, SeqCst);
-    drop(boxed);
-    WATCHED.store(0, SeqCst);
-    let after = SEEN.lock().unwrap();
-    let changed = (0..before.len()).filter(|&at| before[at] != after[at]);
-    changed.inspect(|&at| assert_eq!(after[at], 0)).count()
-}
-
-// How many blocks had the secret when they were freed.
-fn freed_with_secret(run: impl FnOnce()) -> usize {
-    WITH_SECRET.store(0, SeqCst);
-    IS_ARMED.store(true, SeqCst);
-    run();
-    IS_ARMED.store(false, SeqCst);
-    WITH_SECRET.load(SeqCst)
-}
-
 #[test]
 fn keys() {
     let _turn = turn();
-    for (algorithm, least) in [
-        (hmac::HMAC_SHA1_FOR_LEGACY_USE_ONLY, 36),
-        (hmac::HMAC_SHA256, 60),
-        (hmac::HMAC_SHA384, 120),
-        (hmac::HMAC_SHA512, 120),
-    ] {
-        assert!(wiped(hmac::Key::new(algorithm, &SECRET)) >= least);
+    for it in all_keyed() {
+        // Two chaining values, of which a few bytes may be zeros before.
+        let least = 2 * it.digest.chaining_len() * 15 / 16;
+        assert!(wiped(hmac::Key::new(it.hmac, &SECRET)) >= least);
     }
 }
 
@@ -120,16 +51,10 @@ fn salts_and_prks() {
         freed_with_secret(|| drop(hkdf::Salt::new(hkdf::HKDF_SHA256, &SECRET))),
         0
     );
-    let prk = || hkdf::Prk::new_less_safe(hkdf::HKDF_SHA384, &SECRET);
-    assert_eq!(freed_with_secret(|| drop(prk())), 0);
-    assert_eq!(freed_with_secret(|| drop(prk().clone())), 0);
-}
-
-struct Length(usize);
-
-impl hkdf::KeyType for Length {
-    fn len(&self) -> usize {
-        self.0
+    for it in all_keyed() {
+        let prk = || hkdf::Prk::new_less_safe(it.hkdf, &SECRET);
+        assert_eq!(freed_with_secret(|| drop(prk())), 0);
+        assert_eq!(freed_with_secret(|| drop(prk().clone())), 0);
     }
 }
 
@@ -146,17 +71,17 @@ fn look_for_output(prk: &hkdf::Prk, info: &[u8]) {
 #[test]
 fn values_of_outputs() {
     let _turn = turn();
-    let prk = hkdf::Prk::new_less_safe(hkdf::HKDF_SHA384, &SECRET);
-    look_for_output(&prk, b"info");
-    let freed = freed_with_secret(|| {
-        let okm = || prk.expand(&[b"in", b"fo"], hkdf::HKDF_SHA384).unwrap();
-        let (salt, other) = (hkdf::Salt::from(okm()), hkdf::Prk::from(okm()));
-        drop(hmac::Key::from(
-            prk.expand(&[b"info"], hmac::HMAC_SHA384).unwrap(),
-        ));
-        drop((salt.extract(b"secret"), other.clone()));
-    });
-    assert_eq!(freed, 0);
+    for it in all_keyed() {
+        let prk = hkdf::Prk::new_less_safe(it.hkdf, &SECRET);
+        look_for_output(&prk, b"info");
+        let freed = freed_with_secret(|| {
+            let okm = || prk.expand(&[b"in", b"fo"], it.hkdf).unwrap();
+            let (salt, other) = (hkdf::Salt::from(okm()), hkdf::Prk::from(okm()));
+            drop(hmac::Key::from(prk.expand(&[b"info"], it.hmac).unwrap()));
+            drop((salt.extract(b"secret"), other.clone()));
+        });
+        assert_eq!(freed, 0);
+    }
     *MADE.lock().unwrap() = [0; 48];
 }
 

@@ -2,6 +2,7 @@
 /* Each call that takes a secret, over all algorithms and many lengths, between two marks: a window.
  * The secrets are made from the argument, a number; lengths and all else are the same in each run.
  * The name of each window is printed. Those that are called planted leak; the others must not. */
+#include "../../rows.h"
 #include "yezdopin.h"
 #include <stdio.h>
 #include <stdlib.h>
@@ -146,12 +147,12 @@ static void planted(void) {
 int main(int count, char **words) {
     if (count != 2) return 2;
     state = strtoul(words[1], NULL, 10) * UINT64_C(0x9e3779b97f4a7c15);
-    for (uint32_t n = YZ_SHA1; n <= YZ_SHA512_256; n++)
+    for (uint32_t n = 1; n <= ALGORITHMS_COUNT; n++)
         for (size_t i = 0; i < LENGTHS; i++) {
             renew(a, MOST), renew(b, MOST);
             digests(n, LEN[i], other(i));
             comparisons(n, LEN[i]);
-            if (n == YZ_SHA512_256) continue;
+            if (!IS_KEYED(n)) continue;
             tags(n, LEN[i], other(i));
             tokens(n, LEN[i], other(i));
             derivations(n, LEN[i], other(i));

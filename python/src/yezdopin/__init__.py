@@ -24,6 +24,7 @@ from __future__ import annotations
 
 from yezdopin._errors import Error, Status
 from yezdopin._files import file_digest
+from yezdopin._hashes import NAMES as _NAMES
 from yezdopin._native import (
     Digest,
     __version__,
@@ -36,11 +37,13 @@ from yezdopin._native import (
     new,
     pbkdf2_hmac,
     pbkdf2_hmac_verify,
+    # constructors: made by tools/lists.py
     sha1,
     sha256,
     sha384,
     sha512,
     sha512_256,
+    # /constructors
 )
 
 # After the extension, so that where that can't be imported the error says so.
@@ -66,12 +69,14 @@ __all__ = [
     "new",
     "pbkdf2_hmac",
     "pbkdf2_hmac_verify",
+    # exported: made by tools/lists.py
     "sha1",
     "sha256",
     "sha384",
     "sha512",
     "sha512_256",
+    # /exported
 ]
 
-algorithms_guaranteed = {"sha1", "sha256", "sha384", "sha512", "sha512_256"}
+algorithms_guaranteed = set(_NAMES)
 algorithms_available = set(algorithms_guaranteed)

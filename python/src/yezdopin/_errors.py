@@ -11,6 +11,7 @@ __all__ = ["Error", "Status", "TooManyIterations", "UnknownScheme"]
 class Status(enum.IntEnum):
     """Why the library refuses a call: its numbers, by the names that C's have behind `YZ_`."""
 
+    # statuses: made by tools/lists.py
     UNKNOWN_ALGORITHM = 1
     UNKNOWN_CONTEXT = 2
     NO_ITERATIONS = 3
@@ -19,17 +20,20 @@ class Status(enum.IntEnum):
     TOO_MANY_ITERATIONS = 6
     BAD_SALT = 7
     UNSPECIFIED = 8
+    # /statuses
 
 
-_REASONS = {
-    1: "unsupported hash type",  # YZ_UNKNOWN_ALGORITHM
-    2: "no context or key",  # YZ_UNKNOWN_CONTEXT
-    3: "there must be at least one iteration",  # YZ_NO_ITERATIONS
-    4: "wrong length of the output, or of a text",  # YZ_WRONG_LENGTH
-    5: "no password hash has this text",  # YZ_BAD_FORMAT
-    6: "the text names too many iterations",  # YZ_TOO_MANY_ITERATIONS
-    7: "a password hash of this scheme cannot have this salt",  # YZ_BAD_SALT
-    8: "an input is too long",  # YZ_UNSPECIFIED
+_REASONS: dict[int, str] = {
+    # texts: made by tools/lists.py
+    Status.UNKNOWN_ALGORITHM: "the number names no algorithm or scheme of this call",
+    Status.UNKNOWN_CONTEXT: "the bytes can be no context or key",
+    Status.NO_ITERATIONS: "the number of iterations is 0",
+    Status.WRONG_LENGTH: "the output or a text has a wrong length",
+    Status.BAD_FORMAT: "no password hash has the text",
+    Status.TOO_MANY_ITERATIONS: "the text has more iterations than the caller takes",
+    Status.BAD_SALT: "a new password hash can't have the salt",
+    Status.UNSPECIFIED: "an input is out of its limits, or the verification failed",
+    # /texts
 }
 
 

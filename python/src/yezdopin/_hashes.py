@@ -8,13 +8,17 @@ from typing import Any
 
 from yezdopin import _native
 
-__all__ = ["native_hash"]
+__all__ = ["KEYED", "NAMES", "native_hash"]
+
+# names: made by tools/lists.py
+NAMES = ("sha1", "sha256", "sha384", "sha512", "sha512_256")
+KEYED = ("sha1", "sha256", "sha384", "sha512")
+# /names
 
 # The constructors that stand for the library's hashes, each with what the extension takes for it.
 _KNOWN: list[tuple[Any, Any]] = [
-    *((it, it) for it in (_native.sha1, _native.sha256, _native.sha384, _native.sha512)),
-    (_native.sha512_256, _native.sha512_256),
-    *((getattr(hashlib, name), name) for name in ("sha1", "sha256", "sha384", "sha512")),
+    *((it, it) for it in (getattr(_native, name) for name in NAMES)),
+    *((getattr(hashlib, name), name) for name in KEYED),
 ]
 
 

@@ -39,18 +39,11 @@ __all__ = ["SCHEMES", "Info", "TooManyIterations", "UnknownScheme", "info", "is_
            "verify"]
 
 SCHEMES = (
-    "django-sha256",
-    "django-sha1",
-    "werkzeug-sha256",
-    "werkzeug-sha512",
-    "phc-sha256",
-    "phc-sha512",
-    "mosquitto",
-    "passlib-sha1",
-    "passlib-sha256",
-    "passlib-sha512",
-    "postgresql",
+    # schemes: made by tools/lists.py
+    "django-sha256", "django-sha1", "werkzeug-sha256", "werkzeug-sha512", "phc-sha256",
+    "phc-sha512", "mosquitto", "passlib-sha1", "passlib-sha256", "passlib-sha512", "postgresql",
     "werkzeug-sha1",
+    # /schemes
 )
 """The schemes of texts, as `new` takes them and `info` tells them."""
 

@@ -60,8 +60,12 @@ def _known(digest: _Hash) -> _Any:
 
 
 def _otp_key(key: _Buffer, allow_short_key: bool) -> _Buffer:
-    """A key of one-time passwords, which is refused where it is short and nobody allows that."""
-    if not allow_short_key and memoryview(key).nbytes < _MIN_KEY_LEN:
+    """A key of one-time passwords, which is refused where it is short and nobody allows that, and
+    always where it is empty, since everybody has that one."""
+    length = memoryview(key).nbytes
+    if length == 0 and allow_short_key:
+        raise _Error(_UNSPECIFIED, "the key of one-time passwords is empty")
+    if not allow_short_key and length < _MIN_KEY_LEN:
         reason = f"a key of one-time passwords has at least {_MIN_KEY_LEN} bytes"
         raise _Error(_UNSPECIFIED, f"{reason}, where allow_short_key is not set")
     return key
@@ -105,8 +109,8 @@ def hotp(
     The hash is a name, or a constructor of `yezdopin` or `hashlib`. `Error` is raised for another
     one (status 1, `YZ_UNKNOWN_ALGORITHM`), for other than 6 to 8 digits (status 4,
     `YZ_WRONG_LENGTH`), and for a key of less than 16 bytes (RFC 4226, section 4; status 8,
-    `YZ_UNSPECIFIED`) unless `allow_short_key` is true; `OverflowError` for a counter that has not
-    64 bits.
+    `YZ_UNSPECIFIED`) unless `allow_short_key` is true and it has one at least; `OverflowError` for a
+    counter that has not 64 bits.
     """
     return _native.tokens_hotp(_otp_key(key, allow_short_key), counter, digits, _known(digest))
 

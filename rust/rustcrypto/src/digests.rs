@@ -1,15 +1,14 @@
 // SPDX-License-Identifier: ISC
 //! Digests (FIPS 180-4).
 
-use digest::consts::{U128, U20, U32, U48, U64};
-use digest::{FixedOutput, FixedOutputReset, HashMarker, Output, Reset, Update};
+use digest::{consts, FixedOutput, FixedOutputReset, HashMarker, Output, Reset, Update};
 use std::{io, mem};
 use yezdopin::digest::Context;
 
 macro_rules! digests {
     ($(
         $(#[$doc:meta])*
-        $name:ident: $algorithm:ident, $output_len:ty, $block_len:ty;
+        $name:ident $text:literal: $algorithm:ident, $output_len:ty, $block_len:ty;
     )*) => {$(
         $(#[$doc])*
         #[derive(Clone)]
@@ -63,15 +62,4 @@ macro_rules! digests {
     )*};
 }
 
-digests! {
-    /// SHA-1 (FIPS 180-4, section 6.1), which is broken: for what must still read old data.
-    Sha1: SHA1_FOR_LEGACY_USE_ONLY, U20, U64;
-    /// SHA-256 (FIPS 180-4, section 6.2).
-    Sha256: SHA256, U32, U64;
-    /// SHA-384 (FIPS 180-4, section 6.5).
-    Sha384: SHA384, U48, U128;
-    /// SHA-512 (FIPS 180-4, section 6.4).
-    Sha512: SHA512, U64, U128;
-    /// SHA-512/256 (FIPS 180-4, section 6.7).
-    Sha512_256: SHA512_256, U32, U128;
-}
+each_digest!(digests);

@@ -60,12 +60,15 @@ macro_rules! lengths {
     };
 }
 
+#[macro_use]
+mod rows;
+
 mod digests;
 mod passwords;
 mod tags;
 
 pub use digest::{self, Digest};
-pub use digests::{Sha1, Sha256, Sha384, Sha512, Sha512_256};
+pub use digests::*;
 pub use password_hash::{self, PasswordVerifier};
 pub use passwords::Pbkdf2;
-pub use tags::{HmacSha1, HmacSha256, HmacSha384, HmacSha512};
+pub use tags::*;

@@ -1,7 +1,7 @@
 // SPDX-License-Identifier: ISC
 //! Tags: HMAC (RFC 2104).
 
-use digest::consts::{U128, U20, U32, U48, U64};
+use digest::consts;
 use digest::crypto_common::KeySizeUser;
 use digest::{FixedOutput, FixedOutputReset, InvalidLength, Key, KeyInit, MacMarker, Output};
 use digest::{Reset, Update};
@@ -11,7 +11,7 @@ use yezdopin::hmac;
 macro_rules! tags {
     ($(
         $(#[$doc:meta])*
-        $name:ident: $algorithm:ident, $output_len:ty, $block_len:ty;
+        $name:ident $text:literal: $algorithm:ident, $output_len:ty, $block_len:ty;
     )*) => {$(
         $(#[$doc])*
         #[derive(Clone)]
@@ -79,13 +79,4 @@ macro_rules! tags {
     )*};
 }
 
-tags! {
-    /// HMAC over SHA-1: for what must still read old data.
-    HmacSha1: HMAC_SHA1_FOR_LEGACY_USE_ONLY, U20, U64;
-    /// HMAC over SHA-256.
-    HmacSha256: HMAC_SHA256, U32, U64;
-    /// HMAC over SHA-384.
-    HmacSha384: HMAC_SHA384, U48, U128;
-    /// HMAC over SHA-512.
-    HmacSha512: HMAC_SHA512, U64, U128;
-}
+each_tag!(tags);

@@ -5,10 +5,9 @@
 use digest::{Digest, FixedOutputReset, Mac, Reset, Update};
 use std::io::Write;
 use yezdopin_rustcrypto::password_hash::PasswordHash;
-use yezdopin_rustcrypto::{
-    HmacSha1, HmacSha256, HmacSha384, HmacSha512, PasswordVerifier, Pbkdf2, Sha1, Sha256, Sha384,
-    Sha512, Sha512_256,
-};
+use yezdopin_rustcrypto::{HmacSha256, PasswordVerifier, Pbkdf2, Sha512_256};
+
+include!("../src/rows.rs");
 
 const LONG: [u8; 1000] = [0x61; 1000];
 
@@ -40,13 +39,26 @@ fn digests<D: Digest + FixedOutputReset + Reset + Clone + Default + Write>(of_ab
     is_of_abc(&running.finalize());
 }
 
+// The answer in a file of vectors/ to a call.
+fn answer(file: &str, call: &str) -> String {
+    let folder = concat!(env!("CARGO_MANIFEST_DIR"), "/../../vectors");
+    let text = std::fs::read_to_string(format!("{folder}/{file}")).unwrap();
+    let (_, found) = text.split_once(&format!("{call}\n#= ")).expect(call);
+    found[..found.find(' ').unwrap()].to_string()
+}
+
+macro_rules! each_of_abc {
+    ($($(#[$doc:meta])* $name:ident $text:literal: $algorithm:ident, $output:ty, $block:ty;)*) => {
+        $(digests::<yezdopin_rustcrypto::$name>(&answer(
+            "digest.txt",
+            concat!("digest ", $text, " 616263"),
+        ));)*
+    };
+}
+
 #[test]
 fn digests_of_fips_180_4() {
-    digests::<Sha1>("a9993e364706816aba3e25717850c26c9cd0d89d");
-    digests::<Sha256>("ba7816bf8f01cfea414140de5dae2223b00361a396177a9cb410ff61f20015ad");
-    digests::<Sha384>("cb00753f45a35e8bb5a03d699ac65007272c32ab0eded163");
-    digests::<Sha512>("ddaf35a193617abacc417349ae20413112e6fa4e89a97ea2");
-    digests::<Sha512_256>("53048e2681941ef99b2e29b76b4c7dabe4c2d0c634fc6d46");
+    each_digest!(each_of_abc);
 }
 
 const KEY: &[u8] = b"Jefe";
@@ -88,18 +100,18 @@ where
     assert!(mac.verify(&tag).is_ok());
 }
 
+macro_rules! each_of_jefe {
+    ($($(#[$doc:meta])* $name:ident $text:literal: $algorithm:ident, $output:ty, $block:ty;)*) => {
+        $(tags::<yezdopin_rustcrypto::$name>(&answer(
+            "hmac.txt",
+            &format!("hmac {} {} {}", $text, hex(KEY), hex(MESSAGE)),
+        ));)*
+    };
+}
+
 #[test]
 fn tags_of_rfc_4231() {
-    tags::<HmacSha1>("effcdf6ae5eb2fa2d27416d5f184df9c259a7c79");
-    tags::<HmacSha256>("5bdcc146bf60754e6a042426089575c75a003f089d2739839dec58b964ec3843");
-    tags::<HmacSha384>(
-        "af45d2e376484031617f78d2b58a6b1b9c7ef464f5a01b47e42ec3736322445e\
-         8e2240ca5e69e2c78b3239ecfab21649",
-    );
-    tags::<HmacSha512>(
-        "164b7a7bfcf819e2e395fbe73b56e0a387bd64222e831fd610270cd7ea250554\
-         9758bf75c05a994a6d034f65f8f0e6fdcaeab1a34d4a6b4b636e070a38bce737",
-    );
+    each_tag!(each_of_jefe);
 }
 
 #[test]

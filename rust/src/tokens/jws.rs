@@ -25,36 +25,35 @@ use alloc::vec::Vec;
 use core::fmt;
 use core::str;
 
-/// An algorithm of signatures, as a header's `alg` names it (RFC 7518, section 3.2).
-#[derive(Clone, Copy, Debug, PartialEq, Eq)]
-pub enum Alg {
-    /// `HS256`: HMAC with SHA-256.
-    Hs256,
-    /// `HS384`: HMAC with SHA-384.
-    Hs384,
-    /// `HS512`: HMAC with SHA-512.
-    Hs512,
+macro_rules! algorithms {
+    ($($(#[$doc:meta])* $variant:ident $name:literal $hmac:ident;)*) => {
+        /// An algorithm of signatures, as a header's `alg` names it (RFC 7518, section 3.2).
+        #[derive(Clone, Copy, Debug, PartialEq, Eq)]
+        pub enum Alg {
+            $($(#[$doc])* $variant,)*
+        }
+
+        impl Alg {
+            /// The name in a header's `alg`.
+            pub fn name(self) -> &'static str {
+                match self {
+                    $(Alg::$variant => $name,)*
+                }
+            }
+
+            /// The HMAC algorithm.
+            pub fn hmac_algorithm(self) -> hmac::Algorithm {
+                match self {
+                    $(Alg::$variant => hmac::$hmac,)*
+                }
+            }
+        }
+    };
 }
 
+each_token!(algorithms);
+
 impl Alg {
-    /// The name in a header's `alg`.
-    pub fn name(self) -> &'static str {
-        match self {
-            Alg::Hs256 => "HS256",
-            Alg::Hs384 => "HS384",
-            Alg::Hs512 => "HS512",
-        }
-    }
-
-    /// The HMAC algorithm.
-    pub fn hmac_algorithm(self) -> hmac::Algorithm {
-        match self {
-            Alg::Hs256 => hmac::HMAC_SHA256,
-            Alg::Hs384 => hmac::HMAC_SHA384,
-            Alg::Hs512 => hmac::HMAC_SHA512,
-        }
-    }
-
     /// The least bytes of a key, as many as a digest has (RFC 7518, section 3.2).
     pub fn min_key_len(self) -> usize {
         self.hmac_algorithm().digest_algorithm().output_len()

@@ -41,7 +41,7 @@ const MAX_DIGITS: usize = Digits::Eight as usize;
 /// The fewest bytes of a key (RFC 4226, section 4).
 pub const MIN_KEY_LEN: usize = 16;
 
-/// A key of less than [`MIN_KEY_LEN`] bytes, which [`Key::new`] refuses.
+/// A key of less than [`MIN_KEY_LEN`] bytes, which [`Key::new`] refuses, or an empty one.
 #[derive(Clone, Copy, Debug, PartialEq, Eq)]
 pub struct ShortKey;
 
@@ -69,14 +69,18 @@ impl<'a> Key<'a> {
     /// The key of the bytes `value`, of which there must be [`MIN_KEY_LEN`] or more.
     pub fn new(algorithm: hmac::Algorithm, value: &'a [u8]) -> Result<Self, ShortKey> {
         match value.len() {
-            MIN_KEY_LEN.. => Ok(Key::of_any_length(algorithm, value)),
+            MIN_KEY_LEN.. => Ok(Key { algorithm, value }),
             _ => Err(ShortKey),
         }
     }
 
-    /// The key of the bytes `value`, also where it is short or empty, as devices may have it.
-    pub fn of_any_length(algorithm: hmac::Algorithm, value: &'a [u8]) -> Self {
-        Key { algorithm, value }
+    /// The key of the bytes `value`, also where it is short, as devices may have it. An empty one
+    /// is refused: everybody has it.
+    pub fn of_any_length(algorithm: hmac::Algorithm, value: &'a [u8]) -> Result<Self, ShortKey> {
+        match value {
+            [] => Err(ShortKey),
+            _ => Ok(Key { algorithm, value }),
+        }
     }
 
     /// The algorithm.

@@ -30,6 +30,7 @@ YOURS = "yours"
 PAGES = {
     "README.md": ".",
     "c/README.md": ".",
+    "c/PLATFORMS.md": ".",
     "python/README.md": ".",
     "rust/README.md": YOURS,
     "javascript/README.md": YOURS,
@@ -65,6 +66,7 @@ NEEDED = {
 NOT_RUN = {
     "sudo ": "which changes the system",
     "make check-all": "which runs this test",
+    "make verify": "which tests/verify does, in minutes",
     "debootstrap ": "which fetches a system",
 }
 # Stands before the status of each block in what the shell writes.

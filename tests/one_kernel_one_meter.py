@@ -7,14 +7,14 @@ contracts, and tries these rules: a plain form is the one call of its counted fo
 `ring` make a meter in 22 places, the crates above them in few, and no function that takes one makes
 another; a function that takes a meter calls nothing that runs blocks under another; the calls for C
 and `ring_passwords`, which are handed no meter, call what runs blocks once, and derive by no plain
-form; the calls for C derive in one place each, and only PBKDF2 and the test and the making of a
-password hash do; a block is run once for each block counted, and four side by side for each four;
-and the rounds of SHA-2 and of SHA-1 stand once: what a round alone calls and reads, and the
-rotations that it alone has, stand in one function. Since it finds a call by the function's name,
-and a method's by the type's too, it refuses what hides these: imports under another name, functions
-as values, aliases of types, and macros that call. It then searches as many times again, each time
-with one body planted that keeps its contract, and that a rule has to find. The last line is 'N
-passed, M failed'.
+form; the functions of key schedules run blocks by as many calls as are listed; the calls for C
+derive in one place each, and only PBKDF2 and the test and the making of a password hash do; a block
+is run once for each block counted, and four side by side for each four; and the rounds of SHA-2 and
+of SHA-1 stand once: what a round alone calls and reads, and the rotations that it alone has, stand
+in one function. Since it finds a call by the function's name, and a method's by the type's too, it
+refuses what hides these: imports under another name, functions as values, aliases of types, and
+macros that call. It then searches as many times again, each time with one body planted that keeps
+its contract, and that a rule has to find. The last line is 'N passed, M failed'.
 """
 
 import collections
@@ -28,7 +28,7 @@ sys.dont_write_bytecode = True
 sys.path.append(str(pathlib.Path(__file__).resolve().parent / "lib"))
 import rattle_text
 from planted_bodies import (
-    AHEAD_ONCE, COUNTED_ONCE, FEW_DERIVE, NONE_BELOW, NO_ALIAS, NO_MACRO, NO_OTHER_METER,
+    AHEAD_ONCE, AS_LISTED, COUNTED_ONCE, FEW_DERIVE, NONE_BELOW, NO_ALIAS, NO_MACRO, NO_OTHER_METER,
     NO_OTHER_NAME, NO_OTHER_PLACE, NO_PLAIN_DERIVATION, NO_SECOND, NO_SIGMA_1, NO_VALUE,
     NO_NAMED_COUNT, OF_EACH_FAMILY, OF_ONE_FUNCTION, ONCE, ONE_CALL, ONE_DERIVATION, ONE_MAKER,
     ONE_ROTATION, PLANTED,
@@ -88,6 +88,16 @@ MAY_DERIVE = re.compile(
     r"yz_pbkdf2_\w+|yz_password_hash_(?:verify|new)(?:_counted)?|derive|verify"
 )
 MAKES_TEXT = "new_value"
+# By how many calls the functions of `ring_schedules` run blocks: they take no meter, but for those
+# of a Finished. Others do by one. The calls of QUIC have one for each version.
+SCHEDULES = "ring_schedules"
+RUNS_IN = {
+    "client_application_secret": 4,
+    "hkdf_extract": 3, "hkdf_expand_label": 2, "derive": 2, "derive_of_nothing": 2,
+    "initial_secrets": 3, "packet_key": 2, "packet_iv": 2, "header_key": 2, "next_secret": 2,
+    "external_binder_key": 3, "resumption_binder_key": 3,
+    "into_handshake": 2, "into_handshake_without_shared": 2, "into_master": 2, "export": 4,
+}
 # What loads the words of blocks and what counts these: that it counts as many is its contract. Each
 # family has one place that loads by each, and that runs the rounds and counts there: by fours the
 # kernel of one message, then that by instructions, and the others the kernel over a window.
@@ -160,21 +170,6 @@ class Place:
 
     def __str__(self):
         return f"{self.path}: {'::'.join(filter(None, self.name))}"
-
-
-@functools.cache
-def without_clauses(text):
-    """The text without comments, and without contracts and ghost items."""
-    text = re.sub(r"//[^\n]*", "", text)
-    kept, at = [], 0
-    for clause in re.finditer(r"^[ \t]*(?:pub )?(?:requires|ensures|ghost)\b[^{};]*", text, re.M):
-        if clause.start() < at:
-            continue
-        kept.append(text[at : clause.start()])
-        at = clause.end()
-        if at < len(text) and text[at] == "{":
-            at = rattle_text.end_of(text, at)
-    return "".join(kept) + text[at:]
 
 
 @functools.cache
@@ -522,6 +517,15 @@ def deriving(places):
         names |= {it.name for it in more}
 
 
+def further_runs(place, names):
+    """What a function of a schedule runs beside what is listed, or again in a loop."""
+    function = place.function
+    ends = {call.end() for _, call in all_calls(function, names)}
+    if len(ends) > RUNS_IN.get(function.name, 1) and not meters_of(function)[0]:
+        yield f"{place} runs blocks by {len(ends)} calls"
+    yield from (f"{place} runs blocks in a loop" for it in ends if is_in_loop(function.body, it))
+
+
 def rules_without_meters(places, own):
     """The rules of bodies that are handed no meter: each with whether it holds, and what breaks
     it."""
@@ -530,6 +534,9 @@ def rules_without_meters(places, own):
     twice = [f"{it} calls {name} twice" for it in once
              for name in repeated(it.function, own[it.crate] | metered)]
     yield ONCE, not twice, twice
+    more = [it for place in places if place.crate == SCHEDULES
+            for it in further_runs(place, own[SCHEDULES])]
+    yield AS_LISTED, not more, more
     derived = deriving([it for it in once if it.crate == "ring_c"])
     found = {(name, it, call.end()) for it, called in derived.items() for name, call in called}
     of_others = {name for _, name in DERIVES}
@@ -619,7 +626,9 @@ def rules_of_rounds(places, codes):
 
 def rules(files):
     """All rules over these files: each with whether it holds, and what breaks it."""
-    codes = {path: (crate, without_clauses(text)) for path, (crate, text) in files.items()}
+    codes = {
+        path: (crate, rattle_text.without_clauses(text)) for path, (crate, text) in files.items()
+    }
     places = [
         Place(crate, path, it)
         for path, (crate, code) in codes.items()

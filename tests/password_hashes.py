@@ -428,7 +428,7 @@ def verify(scheme, password, text): return hashes[scheme.split("-")[1]].verify(p
 }
 # What a module is asked for texts that it writes too, and that are of no scheme.
 UNREAD = {
-    "werkzeug": [(f"werkzeug-{it}", "x") for it in ("sha224", "sha384", "md5", "SHA256")],
+    "werkzeug": [(f"werkzeug-{it}", "x") for it in ("sha224", "sha3_256", "md5", "SHA256")],
     "passlib": [(f"passlib-{it}", "x", 0) for it in ("sha1", "sha256", "sha512")],
 }
 ANSWER_ALL = """

@@ -112,7 +112,12 @@ def faults_of_speed(speed):
 def stray_figures(page):
     """The ratios of a page that stand outside of its tables."""
     rest = re.sub(r"<!-- (\w+):.*?<!-- /\1 -->", "", page, flags=re.S)
-    return re.findall(r"\b[01]\.\d\d\b", rest)
+    return re.findall(r"\b[01]\.\d\d\b(?!\.\d)", rest)
+
+
+def last_line(run):
+    """What a command wrote last, as tools/runs.py has kept it."""
+    return (pictures.runs.FOLDER / f"{run}.txt").read_text().splitlines()[-1]
 
 
 def results(figures):
@@ -123,6 +128,8 @@ def results(figures):
             yield f"{path}: its parts", list(faults_of_picture(text))
     yield "the colours of the pictures", list(faults_of_style(svg.STYLE))
     yield "the measurements", list(faults_of_speed(figures["speed"]))
+    said, page = last_line("verify"), (pictures.ROOT / "README.md").read_text()
+    yield "README's last line of make verify", [] if f"\n# {said}\n" in page else [said]
     yield "README's other figures", stray_figures((pictures.ROOT / "README.md").read_text())
     names = {package: offers.names_of(package) for package in offers.PACKAGES}
     yield "the table of packages", offers.faults(figures["packages"], names)
@@ -147,6 +154,8 @@ def planted_in_pictures(figures):
     other = copy.deepcopy(figures)
     row = pictures.row_named(other["speed"]["beside"]["rows"], other["speed"]["shown"][0]["work"])
     row["openssl_3_0"][0] += 0.01
+    crates = pictures.row_named(other["speed"]["beside_crates"]["rows"], pictures.CHOSEN[0])
+    crates[next(iter(other["speed"]["crates"]))][0] += 0.01
     made, before = pictures.wanted(other), pictures.wanted(figures)
     for path in (*pictures.TABLES, "docs/pictures/speed.svg", "docs/pictures/speed_narrow.svg"):
         yield f"planted figure in {path}", [] if made[path] != before[path] else ["it is not there"]

@@ -26,15 +26,17 @@ import sys
 import tempfile
 
 sys.dont_write_bytecode = True
-sys.path.append(str(pathlib.Path(__file__).resolve().parent / "lib"))
+HERE = pathlib.Path(__file__).resolve().parent
+sys.path += [str(HERE / "lib"), str(HERE.parent / "tools")]
 import counted
 import peers
+import rows
 from run import COMPILER, ROOT, answers, differing, file_case, short_of_memory
 
 VECTORS = ROOT / "vectors/tokens"
 PAGE = ROOT / "docs/TOKENS.md"
-HASHES = {"HS256": "sha256", "HS384": "sha384", "HS512": "sha512"}
-OTP_HASHES = {"SHA1": "sha1", "SHA256": "sha256", "SHA384": "sha384", "SHA512": "sha512"}
+HASHES = {it.token: it.name.lower() for it in rows.TOKENS}
+OTP_HASHES = {it.name: it.name.lower() for it in rows.KEYED}
 INVALID, REFUSED = "not a valid token", "refused"
 SYMBOLS = b"ABCDEFGHIJKLMNOPQRSTUVWXYZabcdefghijklmnopqrstuvwxyz0123456789-_"
 # The headers that are read in place.

@@ -1,9 +1,10 @@
 #!/usr/bin/env python3
 # SPDX-License-Identifier: ISC
-"""Writes docs/pictures/*.svg, and the tables of README and c/README.md that show the same.
+"""Writes docs/pictures/*.svg, and the tables of README, docs/SPEED.md and docs/BESIDE.md.
 
 docs/figures.json has the figures, each measurement with its command, date and processor, and what
-README's table of packages has. A table stands between `<!-- NAME: .. -->` and `<!-- /NAME -->`.
+README's table of packages has; docs/pictures/*.txt have what a command wrote, kept by
+tools/runs.py. A table stands between `<!-- NAME: .. -->` and `<!-- /NAME -->`.
 Each picture has a wide form and a narrow one, since the words of the wide one are too small on a
 telephone. Bars begin at 0, and the figure stands behind each. tests/pictures.py fails where a file
 isn't as this program writes it.
@@ -14,6 +15,7 @@ import sys
 
 sys.dont_write_bytecode = True
 import offers
+import runs
 import svg
 
 ROOT = offers.ROOT
@@ -204,8 +206,8 @@ def layers_picture(_figures, width):
         " of the calls for C, crates/ring_c. These call crates/ring, the digests, HMAC, HKDF and "
         "PBKDF2, and that calls crates/ring_core, the block functions. The three crates are proved"
         " to do what the definitions say, which are short and made to be read. Programs in Rattle "
-        "call crates/ring and are proved too. Rattle's prover and compiler, LLVM and the C "
-        "library are trusted.")
+        "call crates/ring and are proved too. Rattle's prover and compiler, the C library and, "
+        "but for what make verify shows by the machine code, LLVM and the linker are trusted.")
     lane = 76 if width == WIDE else 58  # at the right, that of callers in Rattle
     body, rattle = width - lane - 8, width - lane / 2
     picture.text(0, 14, "Your program, in", "small soft")
@@ -219,14 +221,16 @@ def layers_picture(_figures, width):
     picture.arrow(body / 2, y, y + 20)
     y = box(picture, y + 20, "tested", "Machine code, kept as text",
             "generated/, assembly and WebAssembly: without the Rattle kit you build from here. "
-            "A test compares it, byte for byte, with what the kit makes.", 0, body)
+            "A test compares it, byte for byte, with what the kit makes. make verify shows by "
+            "itself that its block functions are the standard's.", 0, body)
     picture.line(0, y + 17, body, y + 17, "grid")
     y = picture.paragraph(0, y + 36, "The Rattle kit proves what follows, and "
                           "compiles it to the code above.", body, "small soft")
     y = proved_layers(picture, y - 4, body, rattle, 86)
     y = box(picture, y + 14, "trusted", "Below all of it",
-            "Rattle's prover and compiler, LLVM, the C library, your compiler and linker; for "
-            "JavaScript also the engine, and the program that turns the module to 32-bit addresses")
+            "Rattle's prover and compiler, the C library; but for what make verify shows, LLVM, "
+            "your compiler and linker; for JavaScript also the engine, and the program that turns "
+            "the module to 32-bit addresses")
     return picture.written(y + 3)
 
 
@@ -254,7 +258,8 @@ def proof_picture(_figures, width):
     return picture.written(max(first, second) + 3)
 
 
-PICTURES = {"speed": speed_picture, "layers": layers_picture, "proof": proof_picture}
+PICTURES = {"speed": speed_picture, "layers": layers_picture, "proof": proof_picture,
+            "verify": runs.drawer("verify")}
 
 
 def ratio_cell(value):
@@ -304,7 +309,7 @@ def table_with_versions(speed, measured, libraries):
 
 
 def measured_table(figures):
-    """The first table of c/README.md."""
+    """The first table of docs/SPEED.md."""
     speed = figures["speed"]
     return table_with_versions(speed, speed["beside"], speed["libraries"])
 
@@ -313,6 +318,25 @@ def crates_table(figures):
     """That beside Rust's crates."""
     speed = figures["speed"]
     return table_with_versions(speed, speed["beside_crates"], speed["crates"])
+
+
+# The rows of docs/BESIDE.md.
+CHOSEN = ("digest of 64 bytes", "digest of 64 KiB", "tag of 64 bytes", "HKDF, 42 bytes",
+          "PBKDF2, 1,000 iterations")
+
+
+def chosen_table(figures):
+    """That of docs/BESIDE.md: some rows beside Rust's crates, as ratios alone."""
+    speed = figures["speed"]
+    rows = [{key: it for key, it in row.items() if key != "ns"}
+            for row in speed["beside_crates"]["rows"] if row["work"] in CHOSEN]
+    keys = [key for key in speed["crates"] if any(key in row for row in rows)]
+    heads = [f"{name} / {speed['crates'][key]['column']}"
+             for name in speed["hashes"] for key in keys]
+    cells = ([row["work"], *(ratio_cell(row.get(key, [None] * 3)[place])
+                             for place in range(len(speed["hashes"])) for key in keys)]
+             for row in rows)
+    return table(["Our time over", *heads], cells)
 
 
 def integer_table(figures):
@@ -358,7 +382,8 @@ def packages_table(figures):
 
 TABLES = {
     "README.md": {"speed": speed_table, "packages": packages_table},
-    "c/README.md": {"instructions": instructions_table, "beside": measured_table,
+    "docs/BESIDE.md": {"chosen": chosen_table},
+    "docs/SPEED.md": {"instructions": instructions_table, "beside": measured_table,
                        "integer": integer_table, "together": together_table,
                        "crates": crates_table},
 }

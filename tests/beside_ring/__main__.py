@@ -108,7 +108,8 @@ def main():
     run.built("ring_bench_main")
     with tempfile.TemporaryDirectory(prefix="beside_ring.") as name:
         folder = pathlib.Path(name)
-        made = debian_crates.build(folder, HERE / "Cargo.toml", HERE / "main.rs")
+        made = debian_crates.build(folder, HERE / "Cargo.toml", HERE / "main.rs",
+                                   HERE.parents[1] / "rust/src/rows.rs")
         ring = made / "beside_ring"
         print(f"ring {debian_crates.version(folder, 'ring')}", flush=True)
         cases = [planted, of_vectors(ring), *(made_at_random(ring, it, times) for it in KINDS)]

@@ -3,17 +3,20 @@
 
 import hashlib
 import hmac
+import pathlib
 import random
 import re
+import sys
+
+sys.path.append(str(pathlib.Path(__file__).resolve().parents[2] / "tools"))
+import rows
 
 # By an algorithm's name: that in hashlib, the bytes of a block, of what the padding has at least,
 # and of a digest.
 ALGORITHMS = {
-    "SHA1": ("sha1", 64, 9, 20),
-    "SHA256": ("sha256", 64, 9, 32),
-    "SHA384": ("sha384", 128, 17, 48),
-    "SHA512": ("sha512", 128, 17, 64),
-    "SHA512_256": (None, 128, 17, 32),
+    it.name: (it.name.lower() if it.is_keyed else None, it.block_len, 1 + it.block_len // 8,
+              it.output_len)
+    for it in rows.ALGORITHMS
 }
 KEYED = [name for name, row in ALGORITHMS.items() if row[0]]
 MAX_ROUNDS = 255  # of HKDF

@@ -59,29 +59,35 @@ fn length(text: &str) -> Option<usize> {
     number(text).filter(|n| *n <= 65536).map(|n| n as usize)
 }
 
-fn digest_algorithm(name: &str) -> Option<&'static digest::Algorithm> {
-    Some(match name {
-        "SHA1" => &digest::SHA1_FOR_LEGACY_USE_ONLY,
-        "SHA256" => &digest::SHA256,
-        "SHA384" => &digest::SHA384,
-        "SHA512" => &digest::SHA512,
-        "SHA512_256" => &digest::SHA512_256,
-        _ => return None,
-    })
+// Those of rust/src, whose statics have the same names.
+include!("rows.rs");
+
+macro_rules! digests {
+    ($($text:literal $name:ident $len:ident: $($bytes:literal),*;)*) => {
+        fn digest_algorithm(name: &str) -> Option<&'static digest::Algorithm> {
+            Some(match name {
+                $($text => &digest::$name,)*
+                _ => return None,
+            })
+        }
+    };
 }
 
-/// The algorithms of tags, of HKDF and of PBKDF2.
-#[rustfmt::skip]
-fn keyed(name: &str) -> Option<(hmac::Algorithm, hkdf::Algorithm, pbkdf2::Algorithm)> {
-    use {hkdf::HKDF_SHA1_FOR_LEGACY_USE_ONLY as HKDF, hmac::HMAC_SHA1_FOR_LEGACY_USE_ONLY as HMAC};
-    Some(match name {
-        "SHA1" => (HMAC, HKDF, pbkdf2::PBKDF2_HMAC_SHA1),
-        "SHA256" => (hmac::HMAC_SHA256, hkdf::HKDF_SHA256, pbkdf2::PBKDF2_HMAC_SHA256),
-        "SHA384" => (hmac::HMAC_SHA384, hkdf::HKDF_SHA384, pbkdf2::PBKDF2_HMAC_SHA384),
-        "SHA512" => (hmac::HMAC_SHA512, hkdf::HKDF_SHA512, pbkdf2::PBKDF2_HMAC_SHA512),
-        _ => return None,
-    })
+each_digest!(digests);
+
+macro_rules! all_keyed {
+    ($($text:literal $digest:ident $hmac:ident $hkdf:ident $pbkdf2:ident;)*) => {
+        /// The algorithms of tags, of HKDF and of PBKDF2.
+        fn keyed(name: &str) -> Option<(hmac::Algorithm, hkdf::Algorithm, pbkdf2::Algorithm)> {
+            Some(match name {
+                $($text => (hmac::$hmac, hkdf::$hkdf, pbkdf2::$pbkdf2),)*
+                _ => return None,
+            })
+        }
+    };
 }
+
+each_keyed!(all_keyed);
 
 fn verdict(is_match: bool) -> String {
     if is_match { "match" } else { "mismatch" }.to_string()

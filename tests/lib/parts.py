@@ -41,7 +41,7 @@ def make(*arguments, arch="x86_64"):
     if arch != "x86_64":
         environment = {name: it for name, it in environment.items() if name not in ("CC", "CXX")}
     run = subprocess.run(
-        ["make", "-s", "-C", ROOT, f"ARCH={arch}", *arguments],
+        ["make", "-s", "-C", ROOT, f"ARCH={arch}", "WERROR=-Werror", *arguments],
         capture_output=True, text=True, check=False, env=environment,
     )
     said = run.stdout + run.stderr

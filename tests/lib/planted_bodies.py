@@ -17,6 +17,9 @@ NO_SECOND = "no function that takes a `&mut Meter` makes another"
 NO_OTHER_PLACE = "the {} places of {} that are listed make a meter, and no other one"
 NONE_BELOW = "no function of a library with meters calls a plain form"
 ONCE = "a body of `ring_passwords` and of `ring_c` calls what runs blocks once"
+AS_LISTED = (
+    "a function of `ring_schedules` runs blocks by as many calls as are listed, and in no loop"
+)
 ONE_DERIVATION = (
     "each call that derives stands in one place of `ring_c`, beside no other one and in no loop"
 )
@@ -43,7 +46,10 @@ C_VERIFY = "    status_from(verify_counted(text, password, max_iterations, meter
 C_INFO = "    match Stored::parse(text) {\n"
 C_DERIVATIONS = "crates/ring_c/src/derivations.rt"
 C_VERIFY_IN = "    match pbkdf2::verify_in::<VECTOR_BITS>(\n"
-FINISHED = "crates/ring_schedules/src/tls13/traffic.rt"
+SCHEDULES = "crates/ring_schedules/src/"
+FINISHED = f"{SCHEDULES}tls13/traffic.rt"
+EXTRACT = "    hkdf_extract(salt.hash(), salt.as_ref(), keying_material)\n"
+PACKET_KEY = '        Version::V1 => secret.expand_label(b"quic key", &[], key),\n'
 SHA1_BY_FOURS = "crates/ring_core/src/digest/sha1/by_fours.rt"
 RUN_WORD_BLOCK = (
     "    run_block(sums, state, first, second, third, fourth);\n    meter.add_block();\n"
@@ -80,6 +86,25 @@ def in_matches(rule, body, *texts):
 # Each is planted in turn: its rule, the file, a text and what stands in its place, and so on for
 # further texts.
 PLANTED = {
+    "an extraction of a key schedule runs twice": before(
+        AS_LISTED, f"{SCHEDULES}extract.rt", EXTRACT,
+        "let _ = hkdf_extract(salt.hash(), salt.as_ref(), keying_material);",
+    ),
+    "an extraction of a key schedule runs again in a loop": before(
+        AS_LISTED, f"{SCHEDULES}extract.rt",
+        "    let Ok(secret) = extract_with(salt, HashValue::zeros(salt.hash()).as_ref()) else {\n",
+        "for _ in 0..2 { if let Ok(found) = extract_with(salt, &[]) { return found; } }",
+    ),
+    "an Early Secret is extracted of zeros too": before(
+        AS_LISTED, f"{SCHEDULES}tls13/early.rt",
+        "        Ok(EarlySecret(extract_with(&HashValue::zeros(hash), psk)?))\n",
+        "let _ = extract_zeros_with(&HashValue::zeros(hash));",
+    ),
+    "a packet's key is expanded twice": (
+        AS_LISTED, f"{SCHEDULES}quic.rt", PACKET_KEY,
+        '        Version::V1 => { let _ = secret.expand_label(b"quic key", &[], key);\n'
+        '            secret.expand_label(b"quic key", &[], key) }\n',
+    ),
     "plain `verify_password` answers an unknown name early": (
         ONE_CALL,
         f"{STORE}store.rt",

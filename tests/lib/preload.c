@@ -1,8 +1,8 @@
 /* SPDX-License-Identifier: ISC */
 /* Loaded into a program before the C library: calls of the system and requests for memory are
  * counted from 1, and some of them fail, as run.py asks in the environment. A process can be killed
- * at a call, reads and writes can be short, a path can be shut, a file can be cut short or grow
- * behind the first read, the clock can go on by equal steps, and random bytes can be known. */
+ * at a call, reads and writes can be short, a path can be shut or gone, a file can be cut short or
+ * grow behind the first read, the clock can go on by equal steps, and random bytes can be known. */
 #define _GNU_SOURCE
 #include <errno.h>
 #include <fcntl.h>
@@ -13,6 +13,7 @@
 #include <string.h>
 #include <sys/stat.h>
 #include <sys/syscall.h>
+#include <sys/sysmacros.h>
 #include <sys/types.h>
 #include <time.h>
 #include <unistd.h>
@@ -29,8 +30,9 @@ static long interrupted_every;
 static long refused_request;
 /* At most so many bytes a read or a write; 0 is no limit. */
 static long step;
-/* The path that cannot be opened. */
-static const char *shut_path;
+/* The path that cannot be opened, the one at which nothing stands, although its folder has its name,
+ * and that of a file with the inode of standard output on another device. */
+static const char *shut_path, *gone_path, *twin_path;
 /* A file, and the length that it gets behind the first read of at least a byte; -1 is none. */
 static const char *changed_file;
 static long changed_length = -1;
@@ -65,6 +67,8 @@ static void prepare(void) {
     }
     counted = getenv("COUNTED");
     shut_path = getenv("SHUT_PATH");
+    gone_path = getenv("GONE_PATH");
+    twin_path = getenv("TWIN_PATH");
     changed_file = getenv("CHANGED_FILE");
 }
 
@@ -160,7 +164,15 @@ int openat64(int folder, const char *path, int flags, ...) __attribute__((alias(
 
 int statx(int folder, const char *path, int flags, unsigned mask, struct statx *found) {
     if (fails_by_name("statx", EACCES)) return -1;
-    return (int)syscall(SYS_statx, folder, path, flags, mask, found);
+    if (gone_path && strcmp(path, gone_path) == 0) return errno = ENOENT, -1;
+    int status = (int)syscall(SYS_statx, folder, path, flags, mask, found);
+    struct stat output;
+    if (status == 0 && twin_path && strcmp(path, twin_path) == 0) {
+        if (fstat(STDOUT_FILENO, &output)) _exit(97);
+        found->stx_ino = output.st_ino;
+        found->stx_dev_minor = minor(output.st_dev) + 1;
+    }
+    return status;
 }
 
 ssize_t getdents64(int folder, void *room, size_t len) {

@@ -2,6 +2,7 @@
 """What a search knows of the text of a source file: where its brackets close, and its functions."""
 
 import dataclasses
+import functools
 import re
 
 # What is passed over where brackets are counted.
@@ -69,3 +70,18 @@ def functions(text):
         owner = next((name for name, start, end in owners if start < it.start() < end), "")
         end = end_of(text, body)
         yield Function(owner, it.group(1), text[opening:body], text[body:end], it.start(), end)
+
+
+@functools.cache
+def without_clauses(text):
+    """The text without comments, and without contracts and ghost items."""
+    text = re.sub(r"//[^\n]*", "", text)
+    kept, at = [], 0
+    for clause in re.finditer(r"^[ \t]*(?:pub )?(?:requires|ensures|ghost)\b[^{};]*", text, re.M):
+        if clause.start() < at:
+            continue
+        kept.append(text[at : clause.start()])
+        at = clause.end()
+        if at < len(text) and text[at] == "{":
+            at = end_of(text, at)
+    return "".join(kept) + text[at:]

@@ -235,7 +235,7 @@ class Words(Case):
         self.assertTrue(text.startswith(USAGE + "\n"))
         statuses = [line[len("status: "):].split(" ")[0] for line in text.splitlines()[-3:]]
         self.assertEqual(statuses, ["0", "1", "2"])
-        self.assertEqual(bare("--version"), (*DONE, b"passwords 0.1.0\n"))
+        self.assertEqual(bare("--version"), (*DONE, b"passwords 0.2.0\n"))
         for word in ("--help", "--version"):
             wanted = (2, f"cannot write to standard output: {NO_SPACE}")
             self.assertEqual(bare(word, stdout=self.full_device())[:2], wanted, word)

@@ -2,12 +2,11 @@
 # SPDX-License-Identifier: ISC
 """What ./sums writes, beside coreutils 9.1 and `hashlib`.
 
-Generated cases run the program, with vectors of each width, and coreutils' `sha1sum`, `sha256sum`,
-`sha384sum` or `sha512sum` in one folder, under one name and with the same words: files with all
-kinds of names, lists that are whole and lists that are broken, and options in all orders. Standard
-output, standard error and
-status are to be the same byte for byte, but that a check escapes names as coreutils 9.7 do. Further
-tests have no second source but `hashlib`. preload.c is loaded into the program so that each system
+Generated cases run the program, with vectors of each width, and coreutils' `sha256sum` or one of
+its kin in one folder, under one name and with the same words: files with all kinds of names, lists
+that are whole and lists that are broken, and options in all orders. Standard output, standard error
+and status are to be the same byte for byte, but that a check escapes names as coreutils 9.7 do.
+Further tests have no second source but `hashlib`. preload.c is loaded into the program so that each system
 call fails in turn, so that a file changes while it is read, and so that the clock goes on by equal
 steps.
 

@@ -100,8 +100,8 @@ class Alone(Case):
         self.write("x", b"abc")
         good = {it: line_of("tag", it, digest_of(it, b"abc"), b"x") for it in TAGS}
         bad = b"no line\n"
-        list_1 = bad + good["sha1"] + bad + b"SHA384 (x) = 00\n" + good["sha512-256"] + bad
-        plain = digest_of("sha384", b"abc") + b"  x\n"
+        list_1 = bad + good["sha1"] + bad + b"SHA512 (x) = 00\n" + good["sha512-256"] + bad
+        plain = digest_of("sha512", b"abc") + b"  x\n"
         self.write("1", list_1 + plain + bad)
         self.write("2", bad + good["sha256"] + bad)
         found = self.run_all(["-cw", "--strict", "1", "2"])
@@ -110,10 +110,10 @@ class Alone(Case):
         many = b"sums: WARNING: %d lines are improperly formatted\n"
         rows = [
             (b"1: 1", b""), (b"1: 3", b"SHA1 "), (b"1: 4", b"SHA1 "), (b"1: 6", b"SHA512/256 "),
-            (b"1: 8", b"SHA384 "),
+            (b"1: 8", b"SHA512 "),
         ]
         wanted = b"".join(shape % it for it in rows) + many % 5
-        rows = [(b"2: 1", b"SHA384 "), (b"2: 3", b"SHA256 ")]
+        rows = [(b"2: 1", b"SHA512 "), (b"2: 3", b"SHA256 ")]
         self.assertEqual(found[2], wanted + b"".join(shape % it for it in rows) + many % 2)
         found = self.run_all(["-cw", "-a", "sha256", "2"])[2]
         rows = [(b"2: 1", b"SHA256 "), (b"2: 3", b"SHA256 ")]
@@ -179,8 +179,12 @@ class Alone(Case):
         self.assertEqual(error, reason + b"sums: WARNING: 1 listed file could not be read\n")
 
     def test_trees(self):
-        """`-r` takes the files below a folder in the byte order of names, and tells of links."""
-        names = ["t/b", "t/a/z", "t/a-b", "t/a.c", "t/a/y/x", "t/B", "t/é", "t/a b", "t/a\nb"]
+        """`-r` takes the files below a folder in the byte order of names, hidden ones too, and tells
+        of links."""
+        names = [
+            "t/b", "t/a/z", "t/a-b", "t/a.c", "t/a/y/x", "t/B", "t/é", "t/a b", "t/a\nb", "t/.b",
+            "t/.a/.c", "t/..b", "t/.../...c",
+        ]
         for name in names:
             self.write(name, name.encode())
         (self.path / "t/empty").mkdir()

@@ -133,6 +133,37 @@ class Failing(Case):
                 wanted = (1, b"".join(lines), b"sums: t/b: Permission denied\n")
                 self.assertEqual(found, wanted, (words, found))
 
+    def test_files_that_vanish(self):
+        """A name in a folder at which nothing stands any more is told, and makes the status 1."""
+        self.write_trees()
+        first, _, *rest = self.tree[:4]
+        for build in BUILDS:
+            found, _ = self.run_with(build, ["-r", "t"], GONE_PATH="t/b/c")
+            reason = b"sums: t/b/c: No such file or directory\n"
+            self.assertEqual(found, (1, b"".join([first, *rest]), reason))
+
+    def test_file_with_the_inode_of_the_output(self):
+        """`-r` leaves out the file with the device and the inode of standard output, and not one
+        that has its inode on another device."""
+        self.write_trees()
+        for build in BUILDS:
+            with open(self.path / "t/list", "wb") as output:
+                run_by = functools.partial(run, build, ["-r", "t"], self.path, stdout=output)
+                found, _, _ = self.preload.watched(run_by, TWIN_PATH="t/a")
+            self.assertEqual(found[::2], (0, b""))
+            self.assertEqual((self.path / "t/list").read_bytes(), b"".join(self.tree[:4]))
+
+    def test_many_folders(self):
+        """`-r` reads each of 65,600 folders in one, all of which wait when the next is read."""
+        count = 65_600
+        for place in range(count):
+            os.mkdir(self.path / f"{place}")
+        for build in BUILDS:
+            # Of each folder some names are read, and then none.
+            run_by = functools.partial(run, build, ["-r", "."], self.path, timeout=600)
+            _, calls, _ = self.preload.watched(run_by, COUNTED="open getdents64")
+            self.assertGreaterEqual(calls.count("getdents64"), 2 * (count + 1))
+
     def test_interruptions(self):
         """A run whose reads are interrupted is a whole one: each in turn, and every other one."""
         self.write_trees()

@@ -14,7 +14,7 @@ import unittest
 from lists import ALGORITHMS, BUILDS, ENVIRONMENT, NAMES, VERSION, Files, line_of, run
 
 # How many cases of each kind are generated.
-LISTINGS, CHECKS, WORDS = 900, 1100, 400
+LISTINGS, CHECKS, LONG_CHECKS, WORDS = 900, 1100, 20, 400
 
 
 def other_digit(draw, digits):
@@ -194,6 +194,26 @@ class BesideCoreutils(unittest.TestCase):
                 if draw.random() < 0.05:
                     lists.append(draw.choice([b"missing", b"folder", b"no such"]))
                 self.same(algorithm, check_words(draw, lists), given, is_check=True)
+
+    def test_long_checks(self):
+        """Checks of lists of up to 900,000 bytes, also with a line of 700,000."""
+        draw = random.Random(5)
+        for case in range(LONG_CHECKS):
+            with self.subTest(case=case):
+                algorithm, pieces, size = draw.choice(ALGORITHMS), [], 0
+                while size < draw.choice([250_000, 300_000, 900_000]):
+                    # A name that is not UTF-8 is refused.
+                    piece = list_for(draw, self.files, algorithm).decode(errors="ignore").encode()
+                    pieces.append(piece)
+                    size += len(pieces[-1])
+                if draw.random() < 0.4:
+                    end = draw.choice([b"", b"\n"])
+                    long = b"0" * draw.choice([262_144, 700_000]) + end
+                    pieces.insert(draw.randrange(len(pieces)), long)
+                text = b"".join(pieces)
+                (self.files.path / "list0").write_bytes(text)
+                lists = draw.choice([[b"list0"], [b"-"], [b"-", b"list0"]])
+                self.same(algorithm, check_words(draw, lists), text, is_check=True)
 
     def test_words(self):
         """Options that are right, abbreviated, unknown, or do not go together."""

@@ -7,9 +7,13 @@ import os
 import pathlib
 import random
 import subprocess
+import sys
 import tempfile
 
 from run import ROOT, built, ended
+
+sys.path.append(str(ROOT / "tools"))
+import rows
 
 LAUNCHER = ROOT / "sums"
 # Without which it runs over vectors of 128 bits.
@@ -19,11 +23,8 @@ ENVIRONMENT = {"LC_ALL": "C.UTF-8", "PATH": "/usr/bin:/bin"}
 TIMEOUT = 120
 
 # The program's name, coreutils' name, the name of an option, and `hashlib`'s.
-ALGORITHMS = ("sha1", "sha256", "sha384", "sha512")
-TAGS = {
-    "sha1": "SHA1", "sha256": "SHA256", "sha384": "SHA384", "sha512": "SHA512",
-    "sha512-256": "SHA512/256",
-}
+ALGORITHMS = tuple(it.name.lower() for it in rows.KEYED)
+TAGS = {it.name.lower().replace("_", "-"): it.name.replace("_", "/") for it in rows.ALGORITHMS}
 
 NAMES = [
     b"a", b"b.txt", b"with space", b"two  spaces", b" leading", b"trailing ", b"*star", b"-dash",

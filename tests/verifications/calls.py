@@ -13,7 +13,7 @@ import password_hashes
 import tokens
 from near import Table, ends_of
 
-ALGORITHMS = {"SHA1": "sha1", "SHA256": "sha256", "SHA384": "sha384", "SHA512": "sha512"}
+ALGORITHMS = tokens.OTP_HASHES
 # Around the ends of blocks with and without their padding, where a call releases Python's GIL, at
 # the pieces in which the package for JavaScript copies a message (64 KiB), and where `subtle` gives
 # it to a worker (256 KiB).
@@ -258,7 +258,8 @@ def one_time_passwords(table):
                 counters(table, name, KEY[:20], counter, places)
             for time, step in ((0, 30), (59, 30), (60, 30), (2**64 - 1, 1), (2**40, 2**32 - 1)):
                 steps(table, name, KEY[:20], time, step, places)
-        for length in KEY_LENGTHS:
+        # No package takes an empty key.
+        for length in KEY_LENGTHS[1:]:
             counters(table, name, KEY[:length], 5, 6)
 
 

@@ -6,6 +6,7 @@
 #     make check                # tests the library and the packages for C, Python and Rust
 #     make verify               # shows the library's machine code for all inputs: docs/VERIFY.md
 #     make check-all            # runs all tests of the repository that need no kit
+#     make lists                # writes the lists of tools/rows.py in packages and pages
 #     make clean                # removes out/
 #     make help                 # prints these lines, and those of all parts
 #
@@ -74,13 +75,18 @@ DOCDIR ?= $(PREFIX)/share/doc/yezdopin
 MANDIR ?= $(PREFIX)/share/man
 CMAKEDIR = $(LIBDIR)/cmake/yezdopin
 CFLAGS ?= -O2 -g
+# The library's own, where nobody names CFLAGS: without debug information, so that all who build it
+# get the same bytes.
+LIBRARY_CFLAGS = $(if $(filter file,$(origin CFLAGS)),-O2,$(CFLAGS))
 
 HEADER = c/include/yezdopin.h
 number = $(shell sed -n 's/^\#define YZ_VERSION_$(1) //p' $(HEADER))
 MAJOR := $(call number,MAJOR)
 VERSION := $(MAJOR).$(call number,MINOR).$(call number,PATCH)
 
-WARNINGS = -Wall -Wextra -Wpedantic -Wconversion -Wshadow -Werror
+# `make check` refuses what a compiler warns of; another one may warn of more.
+WERROR =
+WARNINGS = -Wall -Wextra -Wpedantic -Wconversion -Wshadow $(WERROR)
 STRICT = -std=c11 -D_POSIX_C_SOURCE=200809L $(WARNINGS) -Ic/include
 # The crate's builds as assembly text: for x86-64-v2 and for x86-64-v3, or for aarch64.
 ifeq ($(ARCH),x86_64)
@@ -133,12 +139,23 @@ PARTS = generated/make/generated.mk c/c.mk python/python.mk rust/rust.mk openssl
     packaging/windows/windows.mk packaging/macos/macos.mk
 include $(PARTS)
 
-ifeq ($(ARCH),$(HOST))
-check: test verifications builds sanitized header installed moved python wheel rust
-else
-# The others want the other processor's own Python, Rust and sanitizers.
-check: test header installed
-endif
+# The parts of `check`. One that lacks a tool is left out by name. The other processor has neither
+# its own Python and Rust here nor its sanitizers.
+CHECKED = test header installed bare-check $(if $(filter $(HOST),$(ARCH)),verifications builds \
+    sanitized moved python wheel rust)
+PYTHON_H = $(if $(wildcard $(shell $(PYTHON) -c \
+    'import sysconfig; print(sysconfig.get_paths()["include"])' 2>/dev/null)/Python.h),,Python.h)
+PIP = $(if $(shell $(PYTHON) -m pip --version 2>/dev/null),,pip)
+WANTS_verifications = $(call missing,$(PYTHON))
+WANTS_moved = $(call missing,$(PKG_CONFIG))
+WANTS_python = $(or $(call missing,$(PYTHON)),$(PYTHON_H))
+WANTS_wheel = $(or $(WANTS_python),$(PIP))
+WANTS_rust = $(call missing,$(CARGO) $(PYTHON))
+check:
+	@:$(foreach it,$(CHECKED),$(if $(strip $(WANTS_$(it))),; \
+	    echo 'left out: $(it)$(comma) without $(strip $(WANTS_$(it)))'))
+	$(MAKE) --no-print-directory WERROR=-Werror \
+	    $(foreach it,$(CHECKED),$(if $(strip $(WANTS_$(it))),,$(it)))
 
 $(DEBIAN_13):
 	tests/lib/debian_13 $@ $(DEBIAN_13_PACKAGES)
@@ -146,6 +163,11 @@ $(DEBIAN_13):
 # The gate but for what needs the kit: it names what it leaves out.
 check-all:
 	tests/without_kit
+
+# The manual page is made of the header, which has lists too.
+lists:
+	$(PYTHON) tools/lists.py
+	$(PYTHON) c/man/page.py
 
 # In the place of these, --quick takes a minute.
 VERIFY_FLAGS =
@@ -159,4 +181,4 @@ clean:
 help:
 	@sed -n 's/^#     //p' Makefile $(PARTS)
 
-.PHONY: all check check-all clean help verify
+.PHONY: all check check-all clean help lists verify

@@ -236,7 +236,7 @@ def missed_faults():
 def tables_of_page(page):
     """Whether docs/API.md has the tables of the comments, and whether a changed one shows."""
     yield call_tables.is_as_written(page), "other tables: run `python3 tools/call_tables.py`"
-    changed = page.replace("|Returns ", "|Gives ", 1)
+    changed = page.replace("|Writes ", "|Gives ", 1)
     yield not call_tables.is_as_written(changed), "a planted fault is not found"
 
 

@@ -1,6 +1,6 @@
 """Writes the tables of docs/API.md, from the line "## Calls" on, as the comments of the sources
-have them: each call with its parameters, its comment's first sentence, and a mark where it can be
-refused.
+have them: each call with its parameters, the first sentence of its comment, shortened, and a mark
+where it can be refused.
 
 `python3 tools/call_tables.py` writes them anew; tests/comments.py compares them.
 """
@@ -24,11 +24,22 @@ LEFT_OUT = (
     "ring_core::error", "ring_core::polyfill", "ring_store::laws", "ring_store_text::laws",
     "ring_password_hash::laws", "ring_merkle::laws", "ring_tokens::laws",
 )
-COLUMNS = "|Call|What it gives|\n|-|-|"
+COLUMNS = "|Call|Gives|\n|-|-|"
 # What a table leaves out of a sentence: a section of a standard and a law, and where a link leads.
 SHORTER = (
     (re.compile(r" \((?:FIPS|RFC|\[`)[^()]*(?:\([^()]*\))?\)"), ""),
     (re.compile(r"\[(`[^`]+`)\](?:\([^)]*\))?"), r"\1"),
+)
+# What a table leaves out of a first sentence: what its column, the marks and the parameters say,
+# and a longer part behind a colon, which explains the rest.
+TOLD = (
+    (re.compile(r"^Returns (\w)"), lambda it: it[1].upper()),
+    (re.compile(r"(, runs the blocks that this completes)?,? and counts [^,]* on `meter`$"), ""),
+    (re.compile(r", and runs each block that is complete$"), ""),
+    (re.compile(r" (?:under|by|for) `(?:algorithm|alg)`(?! with)"), ""),
+    (re.compile(r" with no memory but the call's own"), ""),
+    (re.compile(r"returns how many bytes it (?:is|has)"), "returns its length"),
+    (re.compile(r": (?:\S+ ){4}.*"), ""),
 )
 REFUSED = re.compile(r"Refused ")
 
@@ -45,8 +56,10 @@ def sentences(comment):
 
 def told(item):
     """What a comment says first that the item gives."""
-    gives = (it for it in sentences(item.comment) if not REFUSED.match(it))
-    return next(gives, "").replace("|", r"\|")
+    text = next((it for it in sentences(item.comment) if not REFUSED.match(it)), "")
+    for pattern, shorter in TOLD:
+        text = pattern.sub(shorter, text)
+    return text.replace("|", r"\|")
 
 
 def marks(item, found):

@@ -51,8 +51,8 @@ ROW = re.compile(
     r" (?P<digest>\w+)$", re.M,
 )
 LINE = re.compile(
-    r"^\| `(?P<name>[a-z0-9-]+)` \| `(?P<text>\S+)` \| (?P<digest>\S+) \| (?P<salt>[^|]+) \| "
-    r"(?P<kept>[^|]+) \| `(?P<constant>YZ_\w+)`, (?P<number>\d+) \| [^|]+ \|$", re.M,
+    r"^\|`(?P<name>[a-z0-9-]+)`\|`(?P<text>[^\s|]+)`\|(?P<digest>[^\s|]+)\|(?P<salt>[^|]+)\|"
+    r"(?P<kept>[^|]+)\|`(?P<constant>YZ_\w+)`, (?P<number>\d+)\|[^|]+\|$", re.M,
 )
 # Where a limit stands by itself: the file, what finds it, and its name in the rows.
 LIMITS_ELSEWHERE = (
@@ -86,10 +86,9 @@ PLANTED = (
     (SCHEME, 'row (codes "mosquitto")', 'row (codes "mosquito")'),
     (SCHEME, '(codes "$7$") false false Base64', '(codes "$7$") false false Hex'),
     (HELP, "postgresql       werkzeug-sha1", "postgresql"),
-    (PAGE, "| `phc-sha512` | `$pbkdf2-sha512$", "| `phc-sha512` | `$pbkdf2-sha256$"),
-    (PAGE, "| `mosquitto` | `$7$101$SALT$HASH` | SHA-512 |",
-     "| `mosquitto` | `$7$101$SALT$HASH` | SHA-256 |"),
-    (PAGE, "| SHA-1 | as it is | 20 bytes, hex |", "| SHA-1 | as it is | 32 bytes, hex |"),
+    (PAGE, "|`phc-sha512`|`$pbkdf2-sha512$", "|`phc-sha512`|`$pbkdf2-sha256$"),
+    (PAGE, "|`mosquitto`|`$7$101$SALT$HASH`|SHA-512|", "|`mosquitto`|`$7$101$SALT$HASH`|SHA-256|"),
+    (PAGE, "|SHA-1|as it is|20 bytes, hex|", "|SHA-1|as it is|32 bytes, hex|"),
     (PAGE, "`YZ_POSTGRESQL`, 11", "`YZ_POSTGRESQL`, 12"),
     (lists.HEADER, "#define YZ_MAX_PASSWORD_HASH_LEN 1024", "#define YZ_MAX_PASSWORD_HASH_LEN 1023"),
     (lists.HEADER, "(38 + YZ_BASE64_LEN(n)", "(37 + YZ_BASE64_LEN(n)"),

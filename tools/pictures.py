@@ -325,23 +325,27 @@ CHOSEN = ("digest of 64 bytes", "digest of 64 KiB", "tag of 64 bytes", "HKDF, 42
           "PBKDF2, 1,000 iterations")
 
 
-def chosen_table(figures):
-    """That of docs/BESIDE.md: some rows beside Rust's crates, as ratios alone."""
-    speed = figures["speed"]
-    rows = [{key: it for key, it in row.items() if key != "ns"}
-            for row in speed["beside_crates"]["rows"] if row["work"] in CHOSEN]
-    keys = [key for key in speed["crates"] if any(key in row for row in rows)]
-    heads = [f"{name} / {speed['crates'][key]['column']}"
-             for name in speed["hashes"] for key in keys]
+def ratio_table(speed, others, rows):
+    """The ratios alone to other libraries."""
+    keys = [key for key in others if any(key in row for row in rows)]
+    heads = [f"{name} / {others[key]['column']}" for name in speed["hashes"] for key in keys]
     cells = ([row["work"], *(ratio_cell(row.get(key, [None] * 3)[place])
                              for place in range(len(speed["hashes"])) for key in keys)]
              for row in rows)
     return table(["Our time over", *heads], cells)
 
 
+def chosen_table(figures):
+    """That of docs/BESIDE.md: some rows beside Rust's crates."""
+    speed = figures["speed"]
+    rows = [it for it in speed["beside_crates"]["rows"] if it["work"] in CHOSEN]
+    return ratio_table(speed, speed["crates"], rows)
+
+
 def integer_table(figures):
     """The second: OpenSSL without vectors."""
-    return beside_table(figures["speed"], figures["speed"]["beside_integer_code"]["rows"])
+    speed = figures["speed"]
+    return ratio_table(speed, speed["libraries"], speed["beside_integer_code"]["rows"])
 
 
 def instructions_table(figures):

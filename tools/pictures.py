@@ -267,11 +267,6 @@ def ratio_cell(value):
     return "" if value is None else f"{value:.2f}"
 
 
-def time_cell(nanoseconds):
-    """A time as `make speed` prints it."""
-    return f"{nanoseconds} ns" if nanoseconds < 10000 else f"{nanoseconds / 1000:.0f} us"
-
-
 def table(heads, rows):
     """A table of a page, without spaces, since README has a limit."""
     return "\n".join("|".join(["", *row, ""]) for row in (heads, ["-"] * len(heads), *rows))
@@ -285,6 +280,15 @@ def library_columns(speed, rows):
             if any(key in row and row[key][place] is not None for row in rows)]
 
 
+def beside_row(row, columns):
+    """A piece of work with the unit of its times, our times, and their ratios to others'."""
+    unit, size = ("ns", 1) if max(filter(None, row["ns"])) < 10000 else ("us", 1000)
+    return [f"{row['work']} ({unit})"] + [
+        f"{row[key][place] / size:.0f}" if key == "ns"
+        else ratio_cell(row.get(key, [None] * 3)[place]) for place, key in columns
+    ]
+
+
 def beside_table(speed, rows):
     """Our times, and their ratios to those of other libraries."""
     columns = library_columns(speed, rows)
@@ -293,11 +297,7 @@ def beside_table(speed, rows):
         speed["hashes"][place] if key == "ns" else f"/ {others[key]['column']}"
         for place, key in columns
     ]
-    cells = ([row["work"]] + [
-        time_cell(row[key][place]) if key == "ns" else ratio_cell(row.get(key, [None] * 3)[place])
-        for place, key in columns
-    ] for row in rows)
-    return table(heads, cells)
+    return table(heads, [beside_row(row, columns) for row in rows])
 
 
 def table_with_versions(speed, measured, libraries):

@@ -37,7 +37,9 @@ TOLD = (
     (re.compile(r"(, runs the blocks that this completes)?,? and counts [^,]* on `meter`$"), ""),
     (re.compile(r", and runs each block that is complete$"), ""),
     (re.compile(r" (?:under|by|for) `(?:algorithm|alg)`(?! with)"), ""),
+    (re.compile(r", under `algorithm`.*|, with the initial words of .*"), ""),
     (re.compile(r" with no memory but the call's own"), ""),
+    (re.compile(r"length in bytes of"), "length of"),
     (re.compile(r"returns how many bytes it (?:is|has)"), "returns its length"),
     (re.compile(r": (?:\S+ ){4}.*"), ""),
 )

@@ -1,10 +1,10 @@
 #!/usr/bin/env python3
 # SPDX-License-Identifier: ISC
-"""Names each file of code that users run and no proof covers: docs/PROVED.md lists it with its
-lines, so that none is added or grows in silence.
+"""Names each file of code that users run and no proof covers: docs/uncovered.txt lists it with its
+lines, and docs/PROVED.md each folder, so that none is added or grows in silence.
 
     tests/trusted.py
-    tests/trusted.py --write    renews the table of the page
+    tests/trusted.py --write    renews the list and the table of the page
 
 A file of code counts where git has it, unless it is below the crates, which are proved, is text
 that a program made of proved code, or is a test, an example or a tool. The last line is 'N passed,
@@ -18,7 +18,7 @@ import subprocess
 import sys
 
 ROOT = pathlib.Path(__file__).resolve().parent.parent
-PAGE = ROOT / "docs/PROVED.md"
+PAGE, LIST = ROOT / "docs/PROVED.md", ROOT / "docs/uncovered.txt"
 BEGIN, END = "<!-- uncovered: made by tests/trusted.py --write -->", "<!-- /uncovered -->"
 SUFFIXES = {".c", ".h", ".S", ".py", ".rs", ".js", ".mjs", ".cjs", ".sh"}
 # What is proved, and what no user's program is made of or runs.
@@ -58,37 +58,46 @@ def uncovered():
 
 
 def table(found):
-    """The rows of the page."""
-    rows = ["|In|Files and their lines|Lines|", "|-|-|-|"]
-    for folder, files in sorted(found.items()):
-        named = ", ".join(f"`{name}` {lines}" for name, lines in files.items())
-        place = "the top folder" if folder == "." else f"`{folder}`"
-        rows.append(f"|{place}|{named}|{sum(files.values())}|")
-    whole = sum(sum(files.values()) for files in found.values())
-    return "\n".join([*rows, f"|all||{whole}|"])
+    """The rows of the page: the folders, each with its lines."""
+    sums = {folder: sum(files.values()) for folder, files in sorted(found.items())}
+    rows = [f"|{'the top folder' if it == '.' else f'`{it}`'}|{count}|"
+            for it, count in sums.items()]
+    return ["|In|Lines|", "|-|-|", *rows, f"|all|{sum(sums.values())}|"]
+
+
+def lines(found):
+    """The lines of the list: the files, each with its lines."""
+    return [f"{count:5} {pathlib.PurePath(folder, name)}"
+            for folder, files in sorted(found.items()) for name, count in files.items()]
+
+
+def differences(place, made, shown):
+    """What a place has and should not have, and the reverse."""
+    for row in sorted(set(made).symmetric_difference(shown)):
+        side = "isn't there" if row in made else "isn't so"
+        yield f"{place.relative_to(ROOT)}: {side}: {row[:200]}"
 
 
 def main():
-    text = PAGE.read_text()
-    before, _, rest = text.partition(f"{BEGIN}\n")
+    before, _, rest = PAGE.read_text().partition(f"{BEGIN}\n")
     shown, _, after = rest.partition(f"\n{END}")
-    found = uncovered()
-    made = table(found)
+    found, listed = uncovered(), LIST.read_text() if LIST.is_file() else ""
     if sys.argv[1:] == ["--write"]:
+        made = "\n".join(table(found))
         PAGE.write_text(f"{before}{BEGIN}\n{made}\n{END}{after}")
+        LIST.write_text("\n".join(lines(found)) + "\n")
         return 0
-    wrong = sorted(set(made.split("\n")).symmetric_difference(shown.split("\n")))
-    for row in wrong:
-        side = "isn't in the page" if row in made.split("\n") else "isn't so"
-        print(f"FAILED: docs/PROVED.md: {side}: {row[:200]}")
+    wrong = [*differences(PAGE, table(found), shown.split("\n")),
+             *differences(LIST, lines(found), listed.splitlines())]
     # A page whose table is out of place, or a listing that found nothing, names nothing.
     names = [name for files in found.values() for name in files]
     for name in ("dispatch.c", "processor.c", "status.c", "probe.S", "windows.py", "runtime.c"):
         if name not in names:
-            wrong.append(name)
-            print(f"FAILED: {name} isn't found")
+            wrong.append(f"{name} isn't found")
+    for it in wrong:
+        print(f"FAILED: {it}")
     if wrong:
-        print("`tests/trusted.py --write` renews the table: read what it adds.")
+        print("`tests/trusted.py --write` renews both: read what it adds.")
     print(f"{len(names) - min(len(wrong), len(names))} passed, {len(wrong)} failed")
     return bool(wrong)
 

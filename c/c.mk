@@ -141,7 +141,7 @@ builds: $(ARCHIVE_V2)
 	        && $(OUT)/dispatch$$it || exit 1; \
 	done
 	$(OUT)/dispatch table >$(OUT)/dispatch.table
-	sed -n '/^| Calls |/,/^$$/ { /^$$/d; p }' c/PLATFORMS.md | diff - $(OUT)/dispatch.table
+	sed -n '/^|Calls|/,/^$$/ { /^$$/d; p }' c/PLATFORMS.md | diff - $(OUT)/dispatch.table
 	objdump -d $(ARCHIVE_V2) >$(OUT)/v2/archive.text
 	! grep -E '%ymm|\s(v[a-z0-9]+|andn|bls[a-z]+|bzhi|lzcnt|movbe|mulx|p(dep|ext)|rorx|s[ah][lr]x)\s' \
 	    $(OUT)/v2/archive.text

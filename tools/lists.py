@@ -434,9 +434,9 @@ def lists_of_checksums():
 
 
 def table_of_statuses():
-    rows = (f"| {number} | `YZ_{name}` | {text} |" for number, (name, text) in enumerate(STATUSES)
+    rows = (f"|{number}|`YZ_{name}`|{text}|" for number, (name, text) in enumerate(STATUSES)
             if number)
-    return "\n\n| Number | Status | Cause |\n|---|---|---|\n" + lines(rows) + "\n"
+    return "\n\n|Number|Status|Cause|\n|-|-|-|\n" + lines(rows) + "\n"
 
 
 def names_of_lines():

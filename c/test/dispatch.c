@@ -278,7 +278,7 @@ static void try_all(void) {
 static void print_table(void) {}
 #else
 
-/* The rows of README.md: some calls, and for which part of their work. */
+/* The rows of PLATFORMS.md: some calls, and for which part of their work. */
 static const struct {
     int first, last;
     const char *work;
@@ -299,18 +299,18 @@ static void print_cell(size_t row, uint32_t n) {
     }
     bool takes_sha = n <= YZ_SHA256 && builds[1] == 2;
     if (!takes_sha) is("the build with SHA instructions", builds[1], builds[0]);
-    printf(" %sv%d |", takes_sha ? "SHA, " : "", builds[0]);
+    printf("%sv%d|", takes_sha ? "SHA, " : "", builds[0]);
 }
 
-#define HEAD_OF(name, title, ...) " " title " |"
-#define LINE_OF(...) "---|"
+#define HEAD_OF(name, title, ...) title "|"
+#define LINE_OF(...) "-|"
 static void print_table(void) {
-    printf("| Calls |" EACH_ALGORITHM(HEAD_OF) "\n");
-    printf("|---|" EACH_ALGORITHM(LINE_OF) "\n");
+    printf("|Calls|" EACH_ALGORITHM(HEAD_OF) "\n");
+    printf("|-|" EACH_ALGORITHM(LINE_OF) "\n");
     for (size_t row = 0; row < sizeof ROWS / sizeof *ROWS; row++) {
         for (int which = ROWS[row].first; which <= ROWS[row].last; which++)
-            printf("%s `%s`", which == ROWS[row].first ? "|" : ",", CALLS[which].name);
-        printf("%s |", ROWS[row].work);
+            printf("%s`%s`", which == ROWS[row].first ? "|" : ", ", CALLS[which].name);
+        printf("%s|", ROWS[row].work);
         for (uint32_t n = 1; n <= ALGORITHMS_COUNT; n++) print_cell(row, n);
         printf("\n");
     }

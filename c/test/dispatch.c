@@ -1,7 +1,7 @@
 /* SPDX-License-Identifier: ISC */
 /* Which build dispatch.c chooses, also on processors that lack a part of x86-64-v3 or the SHA
  * instructions, and that it hands on each argument and the status. The calls of the builds are
- * stand-ins here. With an argument it prints which build gets which call, as README.md has it. */
+ * stand-ins here. With an argument it prints which build gets which call: PLATFORMS.md's table. */
 #include "../rows.h"
 #include "yezdopin.h"
 #include <cpuid.h>

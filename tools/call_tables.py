@@ -31,7 +31,8 @@ SHORTER = (
     (re.compile(r"\[(`[^`]+`)\](?:\([^)]*\))?"), r"\1"),
 )
 # What a table leaves out of a first sentence: what its column, the marks and the parameters say,
-# and a longer part behind a colon, which explains the rest.
+# and a longer part behind a colon, which explains the rest. One that still has more than MOST words
+# ends at its first comma, unless it says when exactly something holds.
 TOLD = (
     (re.compile(r"^Returns (\w)"), lambda it: it[1].upper()),
     (re.compile(r"(, runs the blocks that this completes)?,? and counts [^,]* on `meter`$"), ""),
@@ -43,6 +44,7 @@ TOLD = (
     (re.compile(r"returns how many bytes it (?:is|has)"), "returns its length"),
     (re.compile(r": (?:\S+ ){4}.*"), ""),
 )
+MOST = 15
 REFUSED = re.compile(r"Refused ")
 
 
@@ -61,6 +63,8 @@ def told(item):
     text = next((it for it in sentences(item.comment) if not REFUSED.match(it)), "")
     for pattern, shorter in TOLD:
         text = pattern.sub(shorter, text)
+    if len(text.split()) > MOST and "exactly" not in text:
+        text = re.split(r", (?!and that )", text)[0]
     return text.replace("|", r"\|")
 
 
@@ -71,7 +75,8 @@ def marks(item, found):
     forms = {it.name: it.signature for it in found if it.name.startswith(f"{stem}_")}
     is_wide = "VECTOR_BITS" in forms.get(f"{stem}_in", "")
     can_fail = item.result.startswith("Result<")
-    return " !" * can_fail + " +" * (f"{item.name}_counted" in forms) + " *" * is_wide
+    shown = "!" * can_fail + "+" * (f"{item.name}_counted" in forms) + "*" * is_wide
+    return " " * bool(shown) + shown
 
 
 def is_row(item, names):

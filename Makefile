@@ -14,7 +14,7 @@
 #
 #     ARCH=aarch64              # for 64-bit ARM, by a cross compiler and under qemu-user
 #     OUT=/a/folder             # in the place of out/, as where this folder can't be written
-#     BUILT=libyezdopin.a       # a finished archive: out/libyezdopin.a of another folder
+#     BUILT=libyezdopin.a       # a finished archive of another folder's out/, and its yezdopin.o
 #     RT=rt                     # the kit's command
 #
 # The version stands in c/include/yezdopin.h, and tests/version.py compares all others with it.
@@ -141,8 +141,8 @@ include $(PARTS)
 
 # The parts of `check`. One that lacks a tool is left out by name. The other processor has neither
 # its own Python and Rust here nor its sanitizers.
-CHECKED = test header installed bare-check $(if $(filter $(HOST),$(ARCH)),verifications builds \
-    sanitized moved python wheel rust)
+CHECKED = test header installed sizes bare-check $(if $(filter $(HOST),$(ARCH)),verifications \
+    builds sanitized moved python wheel rust)
 PYTHON_H = $(if $(wildcard $(shell $(PYTHON) -c \
     'import sysconfig; print(sysconfig.get_paths()["include"])' 2>/dev/null)/Python.h),,Python.h)
 PIP = $(if $(shell $(PYTHON) -m pip --version 2>/dev/null),,pip)

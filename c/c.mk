@@ -8,6 +8,7 @@
 #     make installed            # tests what `make install` installs
 #     make moved                # tests a copy in a path with spaces, and a moved installation
 #     make exports              # tests the library's names, instructions and memory
+#     make sizes                # tests how much of the archive a program takes
 #     make traces               # tests under qemu-user that no jump or address depends on a secret
 #     make constant-time        # tests the same by valgrind, which needs the kit
 #     make instructions-check   # tests the processor's SHA instructions beside their definitions
@@ -40,30 +41,74 @@ $(OUT)/dispatch.o $(OUT)/processor.o $(OUT)/status.o: $(OUT)/%.o: c/%.c c/proces
 	mkdir -p $(@D)
 	$(COMPILED) -c $< -o $@
 
-# $(call archive,OBJECTS): one object of some, which shows the names of the header alone and has
+# $(call one_object,OBJECTS): one object of some, which shows the names of the header alone and has
 # only what these reach. What LLVM noted of symbols for a linker isn't true of it any more.
-define archive
+define one_object
 	$(LD) -r --gc-sections $$(sed 's/^/--undefined=/' $(OUT)/names) -o $(@D)/yezdopin.o $(1)
 	$(OBJCOPY) --remove-section=.llvm_addrsig --keep-global-symbols=$(OUT)/names $(@D)/yezdopin.o
+endef
+
+# $(call archive,OBJECTS): an archive of one object, which tests and `make speed` take.
+define archive
+	$(call one_object,$(1))
 	rm -f $@
 	$(AR) rcsD $@ $(@D)/yezdopin.o
 endef
+
+# $(call split,TEXT,FOLDER,BUILD,FILTER): the objects that split.awk makes of a text, in a folder.
+define split
+	rm -rf $(2)
+	mkdir -p $(2)
+	$(CC) -E $(1) -o $(2)/text
+	$(or $(4),cat) $(2)/text | awk -v folder=$(2) -v build=$(3) -f c/split.awk
+	for it in $(2)/*.s; do $(CC) -c $$it -o $${it%.s}.o || exit 1; done
+endef
+
+# An object for each call of the dispatcher, of what this one reaches alone, without debug
+# information, since each would have all of it.
+define split_dispatcher
+	rm -rf $(PIECES)/calls
+	mkdir -p $(PIECES)/calls
+	for it in $$($(NM) -g --defined-only $(OUT)/dispatch.o | awk 'NF == 3 { print $$3 }'); do \
+	    $(LD) -r --gc-sections --undefined=$$it $(OUT)/dispatch.o -o $(PIECES)/calls/$$it.o && \
+	    $(OBJCOPY) --strip-debug --remove-section=.llvm_addrsig -w \
+	        --strip-unneeded-symbol='v[23]_yz_*' $(PIECES)/calls/$$it.o || exit 1; \
+	done
+endef
+
+# $(call pack_archive,OBJECTS): in the same order under each locale.
+define pack_archive
+	rm -f $@
+	LC_ALL=C; $(AR) rcsD $@ $(1)
+endef
+
+# One object with the names of the header, of which the shared library is linked; and the archive,
+# of objects that have what the same calls reach, so that a program takes only what it calls. The
+# names between these are hidden, and begin with `yz`, `v2_yz` or `v3_yz`.
+WHOLE = $(OUT)/yezdopin.o
+PIECES = $(OUT)/pieces
 
 # What tests run over: the archive, and where it has two builds those with one each.
 BUILDS = $(ARCHIVE)
 TESTED = $(sort $(ARCHIVE) $(BUILDS))
 
 ifeq ($(origin BUILT),command line)
-# A finished archive is taken as it is.
+# A finished archive is taken as it is, and the object beside it.
 $(ARCHIVE): $(BUILT)
 	mkdir -p $(OUT)
 	cp $(BUILT) $@
+$(WHOLE): $(dir $(BUILT))yezdopin.o
+	mkdir -p $(OUT)
+	cp $< $@
 else ifeq ($(SYSTEM),Darwin)
 $(ARCHIVE): $(OUT)/macos/libyezdopin.a
 	cp $< $@
 else ifneq ($(ARCH),x86_64)
-$(ARCHIVE): $(OUT)/processor.o $(OUT)/status.o $(OBJECTS) $(OUT)/names
-	$(call archive,$(filter %.o,$^))
+$(WHOLE): $(OUT)/processor.o $(OUT)/status.o $(OBJECTS) $(OUT)/names
+	$(call one_object,$(filter %.o,$^))
+$(ARCHIVE): $(OUT)/processor.o $(OUT)/status.o $(TEXTS) c/split.awk
+	$(call split,$(TEXTS),$(PIECES))
+	$(call pack_archive,$(PIECES)/*.o $(filter %.o,$^))
 else
 BUILDS = $(ARCHIVE_V2) $(ARCHIVE_V3)
 
@@ -74,12 +119,19 @@ $(OUT)/v3/%.o: c/%.c c/processor.h $(HEADER)
 	mkdir -p $(@D)
 	$(COMPILED) -DFORCED=3 -c $< -o $@
 
-$(ARCHIVE) $(ARCHIVE_V2) $(ARCHIVE_V3): %/libyezdopin.a: \
+$(ARCHIVE_V2) $(ARCHIVE_V3): %/libyezdopin.a: \
     %/dispatch.o %/processor.o $(OUT)/status.o $(OBJECTS) $(OUT)/names
 	$(call archive,$(filter %.o,$^))
+$(WHOLE): $(OUT)/dispatch.o $(OUT)/processor.o $(OUT)/status.o $(OBJECTS) $(OUT)/names
+	$(call one_object,$(filter %.o,$^))
+$(ARCHIVE): $(OUT)/dispatch.o $(OUT)/processor.o $(OUT)/status.o $(TEXTS) c/split.awk
+	$(call split,$(firstword $(TEXTS)),$(PIECES)/v2,v2_)
+	$(call split,$(lastword $(TEXTS)),$(PIECES)/v3,v3_)
+	$(split_dispatcher)
+	$(call pack_archive,$(PIECES)/*/*.o $(OUT)/processor.o $(OUT)/status.o)
 endif
 
-# $(call shared,ARCHIVE): the shared library of an archive.
+# $(call shared,OBJECTS): the shared library of an archive or an object.
 define shared
 	$(CC) $(LIBRARY_CFLAGS) $(LDFLAGS) -shared -nostartfiles -o $@ \
 	    -Wl,--whole-archive $(1) -Wl,--no-whole-archive -Wl,-soname,$(SONAME) \
@@ -87,8 +139,8 @@ define shared
 	    -Wl,--no-undefined -lc
 endef
 
-$(SHARED): $(ARCHIVE) c/exports.map
-	$(call shared,$(ARCHIVE))
+$(SHARED): $(WHOLE) c/exports.map
+	$(call shared,$(WHOLE))
 	ln -sf libyezdopin.so.$(VERSION) $(OUT)/$(SONAME)
 	ln -sf $(SONAME) $(OUT)/libyezdopin.so
 
@@ -265,21 +317,21 @@ endef
 endif
 
 # The tables of addresses of constants, which nothing writes once they are loaded.
-addresses = $(SIZE) -A $(ARCHIVE) | awk '/^\.data\.rel\.ro\./ { sum += $$2 } END { print sum + 0 }'
+addresses = $(SIZE) -A $(WHOLE) | awk '/^\.data\.rel\.ro\./ { sum += $$2 } END { print sum + 0 }'
 
 # The library shows the names of the header alone, calls nothing but what C compilers call by
 # themselves and what processor.c asks, and has no other memory than the two bytes and the pointer
 # of processor.c, and no other instructions than the above. The kernels over the processor's SHA
 # instructions have these as often as a block takes them, and no other function has any.
 exports: all
-	test "$$($(NM) -u $(ARCHIVE) | awk '$$1 == "U" { print $$2 }' | sort | xargs)" = '$(CALLED)'
-	$(NM) -g --defined-only $(ARCHIVE) | awk '{ print $$3 }' | sort | xargs >$(OUT)/archive.names
+	test "$$($(NM) -u $(WHOLE) | awk '$$1 == "U" { print $$2 }' | sort | xargs)" = '$(CALLED)'
+	$(NM) -g --defined-only $(WHOLE) | awk '{ print $$3 }' | sort | xargs >$(OUT)/whole.names
 	$(NM) -D --defined-only $(SHARED) | awk '$$2 == "T" { sub(/@.*/, "", $$3); print $$3 }' \
 	    | sort | xargs >$(OUT)/shared.names
-	test "$$($(calls_of_header) | xargs)" = "$$(xargs <$(OUT)/archive.names)"
-	diff $(OUT)/archive.names $(OUT)/shared.names
-	test "$$($(SIZE) $(ARCHIVE) | awk 'NR > 1 { print $$2, $$3 }')" = "$$(($$($(addresses)) + 8)) 2"
-	$(OBJDUMP) -d $(ARCHIVE) >$(OUT)/archive.text
+	test "$$($(calls_of_header) | xargs)" = "$$(xargs <$(OUT)/whole.names)"
+	diff $(OUT)/whole.names $(OUT)/shared.names
+	test "$$($(SIZE) $(WHOLE) | awk 'NR > 1 { print $$2, $$3 }')" = "$$(($$($(addresses)) + 8)) 2"
+	$(OBJDUMP) -d $(WHOLE) >$(OUT)/archive.text
 	grep -q '\bret\b' $(OUT)/archive.text
 	$(INSTRUCTIONS)
 	$(of_kernels) >$(OUT)/archive.kernels
@@ -287,6 +339,11 @@ exports: all
 	    echo "$${it%% *}.by_instruction.run_$$of: $${it#* }"; \
 	done; done | diff - $(OUT)/archive.kernels
 	$(READELF) -d $(SHARED) | grep -q 'SONAME.*\[$(SONAME)\]'
+	READELF='$(READELF)' c/test/names $(ARCHIVE) '$(CALLED)' $(OUT)/whole.names
+
+# How much of the archive a program takes.
+sizes: $(ARCHIVE)
+	CC='$(CC)' SIZE='$(SIZE)' c/test/sizes $(ARCHIVE) '$(RUN)'
 
 ifneq ($(ARCH),$(HOST))
 # valgrind runs programs of its own processor alone.
@@ -353,15 +410,10 @@ BARE_C = $(CC) $(CPPFLAGS) $(LIBRARY_CFLAGS) -ffreestanding -ffunction-sections 
 
 bare: $(BARE_ARCHIVE)
 
-$(BARE_ARCHIVE): $(firstword $(TEXTS)) c/bare/split.awk c/processor.c c/processor.h c/status.c \
-    $(HEADER)
-	rm -rf $(BARE)
-	mkdir -p $(BARE)/parts
-	$(CC) -E $< -o $(BARE)/text.s
-	awk -v folder=$(BARE)/parts -f c/bare/split.awk $(BARE)/text.s $(BARE)/text.s
-	for it in $(BARE)/parts/*.s; do $(CC) -c $$it -o $${it%.s}.o || exit 1; done
-	for it in processor status; do $(BARE_C) -c c/$$it.c -o $(BARE)/parts/$$it.o || exit 1; done
-	$(AR) rcsD $@ $(BARE)/parts/*.o
+$(BARE_ARCHIVE): $(firstword $(TEXTS)) c/split.awk c/processor.c c/processor.h c/status.c $(HEADER)
+	$(call split,$<,$(BARE)/pieces,,sed '/\.hidden v2_yz_/d; s/v2_yz_/yz_/g')
+	for it in processor status; do $(BARE_C) -c c/$$it.c -o $(BARE)/pieces/$$it.o || exit 1; done
+	$(call pack_archive,$(BARE)/pieces/*.o)
 
 # The calls of the header are there, and nothing is asked for but three functions of memory; each
 # vector; and a whole program without a C library, which is small.
@@ -428,5 +480,5 @@ uninstall:
 	done
 	@echo 'libyezdopin is removed from $(DESTDIR)$(PREFIX)'
 
-.PHONY: test verifications builds sanitized header installed moved exports constant-time traces \
-    instructions-check speed speed-program instructions bare bare-check install uninstall
+.PHONY: test verifications builds sanitized header installed moved exports sizes constant-time \
+    traces instructions-check speed speed-program instructions bare bare-check install uninstall

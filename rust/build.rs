@@ -61,6 +61,7 @@ fn clone_above(package: &Path) -> Option<PathBuf> {
 fn made(root: &Path, system: &str, processor: &str) -> PathBuf {
     let sources = [
         "generated",
+        "c/split.awk",
         "c/dispatch.c",
         "c/processor.c",
         "c/processor.h",

@@ -20,7 +20,7 @@ import sys
 ROOT = pathlib.Path(__file__).resolve().parent.parent
 PAGE, LIST = ROOT / "docs/PROVED.md", ROOT / "docs/uncovered.txt"
 BEGIN, END = "<!-- uncovered: made by tests/trusted.py --write -->", "<!-- /uncovered -->"
-SUFFIXES = {".c", ".h", ".S", ".py", ".rs", ".js", ".mjs", ".cjs", ".sh"}
+SUFFIXES = {".c", ".h", ".S", ".py", ".rs", ".js", ".mjs", ".cjs", ".sh", ".awk"}
 # What is proved, and what no user's program is made of or runs.
 OTHER_TREES = {"crates", "docs", "speed", "tests", "tools", "vectors", "verify"}
 OTHER_FOLDERS = {"demo", "examples", "man", "peers", "speed", "test", "tests"}

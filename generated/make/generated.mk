@@ -163,8 +163,8 @@ generated:
 
 # What both link to, to the byte: the library of the text that stands here, and the kit's own. A
 # text for Windows is compared, but for its head, with the text that is made anew.
-generated-check: $(ARCHIVE) $(KIT_ARCHIVE) $(WINDOWS_MADE)
-	for it in $(ARCHIVE) $(KIT_ARCHIVE); do \
+generated-check: $(WHOLE) $(KIT_ARCHIVE) $(WINDOWS_MADE)
+	for it in $(WHOLE) $(KIT_ARCHIVE); do \
 	    $(LD) -s -shared --whole-archive $$it -o $(KIT_OUT)/$$(basename $${it%/*}).so || exit 1; \
 	done
 	cmp $(KIT_OUT)/$(notdir $(OUT)).so $(KIT_OUT)/kit.so || $(stale)

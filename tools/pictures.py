@@ -1,6 +1,6 @@
 #!/usr/bin/env python3
 # SPDX-License-Identifier: ISC
-"""Writes docs/pictures/*.svg, and the tables of README, docs/SPEED.md and docs/BESIDE.md.
+"""Writes docs/pictures/*.svg, and the tables of README and docs/SPEED.md.
 
 docs/figures.json has the figures, each measurement with its command, date and processor, and what
 README's table of packages has; docs/pictures/*.txt have what a command wrote, kept by
@@ -320,32 +320,16 @@ def crates_table(figures):
     return table_with_versions(speed, speed["beside_crates"], speed["crates"])
 
 
-# The rows of docs/BESIDE.md.
-CHOSEN = ("digest of 64 bytes", "digest of 64 KiB", "tag of 64 bytes", "HKDF, 42 bytes",
-          "PBKDF2, 1,000 iterations")
-
-
-def ratio_table(speed, others, rows):
-    """The ratios alone to other libraries."""
-    keys = [key for key in others if any(key in row for row in rows)]
-    heads = [f"{name} / {others[key]['column']}" for name in speed["hashes"] for key in keys]
-    cells = ([row["work"], *(ratio_cell(row.get(key, [None] * 3)[place])
+def integer_table(figures):
+    """The second: OpenSSL without vectors, as ratios alone."""
+    speed, rows = figures["speed"], figures["speed"]["beside_integer_code"]["rows"]
+    keys = [key for key in speed["libraries"] if any(key in row for row in rows)]
+    heads = [f"{name} / {speed['libraries'][key]['column']}"
+             for name in speed["hashes"] for key in keys]
+    cells = ([row["work"], *(ratio_cell(row[key][place])
                              for place in range(len(speed["hashes"])) for key in keys)]
              for row in rows)
     return table(["Our time over", *heads], cells)
-
-
-def chosen_table(figures):
-    """That of docs/BESIDE.md: some rows beside Rust's crates."""
-    speed = figures["speed"]
-    rows = [it for it in speed["beside_crates"]["rows"] if it["work"] in CHOSEN]
-    return ratio_table(speed, speed["crates"], rows)
-
-
-def integer_table(figures):
-    """The second: OpenSSL without vectors."""
-    speed = figures["speed"]
-    return ratio_table(speed, speed["libraries"], speed["beside_integer_code"]["rows"])
 
 
 def instructions_table(figures):
@@ -386,7 +370,6 @@ def packages_table(figures):
 
 TABLES = {
     "README.md": {"speed": speed_table, "packages": packages_table},
-    "docs/BESIDE.md": {"chosen": chosen_table},
     "docs/SPEED.md": {"instructions": instructions_table, "beside": measured_table,
                        "integer": integer_table, "together": together_table,
                        "crates": crates_table},

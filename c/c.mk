@@ -339,7 +339,7 @@ exports: all
 	    echo "$${it%% *}.by_instruction.run_$$of: $${it#* }"; \
 	done; done | diff - $(OUT)/archive.kernels
 	$(READELF) -d $(SHARED) | grep -q 'SONAME.*\[$(SONAME)\]'
-	READELF='$(READELF)' c/test/names $(ARCHIVE) '$(CALLED)' $(OUT)/whole.names
+	NM='$(NM)' READELF='$(READELF)' c/test/names $(ARCHIVE) $(WHOLE) '$(CALLED)'
 
 # How much of the archive a program takes.
 sizes: $(ARCHIVE)

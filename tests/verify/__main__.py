@@ -37,9 +37,10 @@ KEPT = pathlib.Path(os.environ.get("XDG_CACHE_HOME") or "~/.cache").expanduser()
 def digest():
     """The sum of all that a verdict depends on: the libraries, the checker, its tests, the
     processor."""
-    found = hashlib.sha256(machine_code.LIBRARY.read_bytes())
-    if for_arm.HAS_COMPILER:
-        found.update(for_arm.LIBRARY.read_bytes())
+    found = hashlib.sha256()
+    for library in (machine_code.LIBRARY, for_arm.LIBRARY)[:1 + bool(for_arm.HAS_COMPILER)]:
+        found.update(library.read_bytes())
+        found.update(library.with_name("libyezdopin.a").read_bytes())
     for folder in (ROOT / "verify", ROOT / "tests/verify"):
         for path in sorted(folder.iterdir()):
             if path.is_file():

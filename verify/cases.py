@@ -27,10 +27,9 @@ EDGES = {0, 1, 20, 32, 48, 49, 55, 56, 63, 64, 65, 111, 112, 119, 120, 127, 128,
 GROUPS = ("digest", "pieces", "dispatch", "hmac", "hmac_key", "made", "hkdf", "pbkdf2", "each",
           "trees", "tokens", "passwords", "plain", "ask", "refused", "whole")
 FEW = 64  # where one of so many is run
-# Public functions that no case runs, and why.
-NOT_SHOWN = {name: "the password is the tag's bits from a place that the tag tells (RFC 4226, "
-                   "5.3), divided by a power of ten: an address and a time by a secret"
-             for name in ("yz_hotp", "yz_totp", "yz_hotp_find", "yz_totp_find")}
+# Public functions that no case runs: their password is the tag's bits from a place that the tag
+# tells (RFC 4226, 5.3), divided by a power of ten: an address and a time by a secret.
+NOT_SHOWN = ("yz_hotp", "yz_totp", "yz_hotp_find", "yz_totp_find")
 
 
 MODULES = (functions, merkle_trees, texts, sundry, asking)  # that have the cases' functions

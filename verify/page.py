@@ -5,7 +5,7 @@
     verify/page.py [--write] LIBRARY..
 
 Without --write it says whether the page has them. The functions are those of the libraries'
-processors.
+processors and systems: the columns of others stay as they are.
 """
 
 import pathlib
@@ -29,10 +29,11 @@ OF_ARM = ["arm.py", "decode_arm.py"]
 OF_CALLS = ["standards.py", "lengths.py", "summaries.py", "calls.py", "functions.py",
             "merkle_trees.py", "texts.py", "sundry.py", "asking.py", "cases.py", "check_calls"]
 OF_WINDOWS = ["x86_windows.py", "pe.py"]
-COLUMNS = {X86: ["x86-64-v2", "with SHA instructions", "x86-64-v3"],
-           ARM: ["64-bit ARM", "with SHA instructions"]}
-TABLES = {(X86, "Linux"): "functions", (X86, "Windows"): "functions for Windows",
-          (ARM, "Linux"): "functions for ARM"}
+COLUMNS = {(X86, "Linux"): ["Linux v2", "Linux SHA", "Linux v3"],
+           (X86, "Windows"): ["Windows v2", "Windows SHA", "Windows v3"],
+           (ARM, "Linux"): ["ARM", "ARM SHA"]}
+ALL_COLUMNS = [it for columns in COLUMNS.values() for it in columns]
+SHOWN, LACKS = "yes", "lacks"
 
 
 def column(kernel, columns):
@@ -42,16 +43,36 @@ def column(kernel, columns):
 
 
 def functions(library):
-    """A row for what is computed, with the functions that compute it in each build."""
-    rows, columns = {}, COLUMNS[library.machine]
+    """What is computed by which function, each with the columns of the library that have it."""
+    rows, columns = {}, COLUMNS[library.machine, library.system]
     for it in kernels.of(library):
         what = it.what.replace(" by instructions", "")
-        cell = f"`{identify.short_name(it.symbol.name)}`" if it.symbol else "lacks"
-        rows.setdefault(what, {})[column(it, columns)] = cell
-    lines = ["|What|" + "|".join(columns) + "|", "|-|" + "-|" * len(columns)]
-    lines += [f"|{what}|" + "|".join(cells.get(it, "") for it in columns) + "|"
-              for what, cells in sorted(rows.items())]
-    return "\n".join(lines) + "\n"
+        name = f"`{identify.short_name(it.symbol.name)}`" if it.symbol else ""
+        rows.setdefault((what, name), {})[column(it, columns)] = SHOWN if it.symbol else LACKS
+    return rows
+
+
+def rows_of(table):
+    """The rows of a table of the page, as `functions` gives them."""
+    rows = {}
+    for line in table.splitlines()[2:]:
+        what, name, *cells = line[1:-1].split("|")
+        rows[what, name] = dict(zip(ALL_COLUMNS, cells))
+    return rows
+
+
+def with_functions(table, library):
+    """A table of the page with the columns of a library as they have to be."""
+    rows, made = rows_of(table), functions(library)
+    for cells in rows.values():
+        for it in COLUMNS[library.machine, library.system]:
+            cells[it] = ""
+    for key, cells in made.items():
+        rows.setdefault(key, {}).update(cells)
+    found = ["|What|Function|" + "|".join(ALL_COLUMNS) + "|", "|-|-|" + "-|" * len(ALL_COLUMNS)]
+    found += [f"|{what}|{name}|" + "|".join(cells.get(it, "") for it in ALL_COLUMNS) + "|"
+              for (what, name), cells in sorted(rows.items()) if any(cells.values())]
+    return "\n".join(found) + "\n"
 
 
 def lines():
@@ -71,17 +92,20 @@ def lines():
     return "\n".join(rows) + "\n"
 
 
+def put(text, name, make):
+    """The page with another table of a name: what is made of the one that it has."""
+    before, begin, rest = text.partition(BEGIN.format(name))
+    table, end, after = rest.partition(END.format(name))
+    if not begin or not end:
+        sys.exit(f"{PAGE}: no table {name}")
+    return before + begin + make(table) + end + after
+
+
 def with_tables(text, libraries):
     """The page with its tables as they have to be."""
-    tables = [(TABLES[it.machine, it.system], functions(it)) for it in libraries]
-    tables.append(("lines", lines()))
-    for name, made in tables:
-        before, begin, rest = text.partition(BEGIN.format(name))
-        _, end, after = rest.partition(END.format(name))
-        if not begin or not end:
-            sys.exit(f"{PAGE}: no table {name}")
-        text = before + begin + made + end + after
-    return text
+    for it in libraries:
+        text = put(text, "functions", lambda table, it=it: with_functions(table, it))
+    return put(text, "lines", lambda _: lines())
 
 
 def main():

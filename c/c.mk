@@ -401,7 +401,7 @@ instructions: $(ARCHIVE)
 # One build without the dispatcher, which asks no processor and reads no environment: an object for
 # each function, so that a static program takes only what it calls (docs/EMBEDDED.md).
 # SHA_INSTRUCTIONS=1 is for processors that have them.
-BARE = $(OUT)/bare
+BARE = $(OUT)/bare$(if $(filter 1,$(SHA_INSTRUCTIONS)),_sha)
 BARE_ARCHIVE = $(BARE)/libyezdopin.a
 BARE_LEAST = 40960
 SHA_INSTRUCTIONS = 0
@@ -416,7 +416,7 @@ $(BARE_ARCHIVE): $(firstword $(TEXTS)) c/split.awk c/processor.c c/processor.h c
 	$(call pack_archive,$(BARE)/pieces/*.o)
 
 # The calls of the header are there, and nothing is asked for but three functions of memory; each
-# vector; and a whole program without a C library, which is small.
+# vector; and a whole program without a C library, which is small, and is told what it runs.
 bare-check: $(BARE_ARCHIVE) $(OUT)/names
 	$(NM) --defined-only -g $(BARE_ARCHIVE) | awk 'NF == 3 { print $$3 }' | sort -u >$(BARE)/defined
 	$(NM) -u $(BARE_ARCHIVE) | awk 'NF == 2 && $$1 == "U" { print $$2 }' | sort -u | \
@@ -424,8 +424,8 @@ bare-check: $(BARE_ARCHIVE) $(OUT)/names
 	test -z "$$(sort $(OUT)/names | comm -23 - $(BARE)/defined)"
 	$(CC) $(CFLAGS) $(STRICT) c/test/vectors.c $(BARE_ARCHIVE) -o $(BARE)/vectors
 	$(RUN) $(BARE)/vectors $(VECTORS)
-	$(CC) -O2 -ffreestanding -nostdlib -static $(STRICT) c/test/bare.c $(BARE_ARCHIVE) \
-	    -o $(BARE)/program
+	$(CC) -O2 -ffreestanding -nostdlib -static $(STRICT) -DINSTRUCTIONS=$(SHA_INSTRUCTIONS) \
+	    c/test/bare.c $(BARE_ARCHIVE) -o $(BARE)/program
 	$(RUN) $(BARE)/program
 	$(SIZE) $(BARE)/program | awk 'NR == 2 { print $$4 " bytes in a program without a C library"; \
 	    exit $$4 > $(BARE_LEAST) }'

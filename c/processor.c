@@ -30,7 +30,8 @@
 HIDDEN _Atomic uint8_t yz_instructions = INSTRUCTIONS;
 
 #ifdef FORCED
-HIDDEN _Atomic uint8_t yz_known = ASKED | (FORCED == 3 ? YZ_FEATURE_V3 : 0);
+HIDDEN _Atomic uint8_t yz_known =
+    ASKED | (FORCED == 3 ? YZ_FEATURE_V3 : 0) | (INSTRUCTIONS ? YZ_FEATURE_SHA : 0);
 HIDDEN uint8_t yz_ask(void) { return yz_known; }
 #else
 

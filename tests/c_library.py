@@ -94,6 +94,7 @@ ARM_PARTS = [
     ("header", ["aarch64-linux-gnu-g++", "python3"], "the header as C99 and C++11"),
     ("installed", ["qemu-aarch64"], "what `make install` installs, by the example"),
     ("bare-check", ["qemu-aarch64"], "the build for programs without a system"),
+    ("bare-check SHA_INSTRUCTIONS=1", ["qemu-aarch64"], "the same with the SHA instructions"),
     ("sizes", ["qemu-aarch64"], "how much of the archive a program takes"),
     ("exports", [], "names, instructions, memory and versions"),
     ("rust", ["cargo", "qemu-aarch64", "Rust's std for aarch64"], "the Rust crate over vectors/"),

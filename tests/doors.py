@@ -36,6 +36,7 @@ PAGES = {
     "javascript/README.md": YOURS,
     "openssl/README.md": ".",
     "packaging/INSTALL": YOURS,
+    "docs/EMBEDDED.md": ".",
 }
 # Where other pages would be.
 FOLDERS = ("c", "javascript", "openssl", "packaging", "python", "rust")

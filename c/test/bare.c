@@ -1,8 +1,13 @@
 /* SPDX-License-Identifier: ISC
  * A whole program without a system's C library, by the archive of `make bare` alone: it compares
- * SHA-256 of "abc" (FIPS 180-4's example) and ends with 0 where it is right. What the library needs
- * stands here: memcpy, memmove and memset. */
+ * SHA-256 of "abc" (FIPS 180-4's example), and what the library says that it runs, and ends with 0
+ * where both are right. What the library needs stands here: memcpy, memmove and memset. */
 #include <yezdopin.h>
+
+/* 1 where the archive has the SHA instructions. */
+#ifndef INSTRUCTIONS
+#define INSTRUCTIONS 0
+#endif
 
 void *memcpy(void *to, const void *from, size_t count);
 void *memmove(void *to, const void *from, size_t count);
@@ -49,7 +54,8 @@ _Noreturn void begin(void) {
     };
     uint8_t digest[YZ_SHA256_OUTPUT_LEN];
     if (yz_digest(YZ_SHA256, message, sizeof message, digest, sizeof digest) != YZ_OK) end(1);
-    end(yz_equal(digest, sizeof digest, wanted, sizeof wanted) ? 0 : 2);
+    if (!yz_equal(digest, sizeof digest, wanted, sizeof wanted)) end(2);
+    end(yz_features() == (INSTRUCTIONS ? YZ_FEATURE_SHA : 0) ? 0 : 3);
 }
 
 /* The stack is aligned as at a program's entry, and a call wants it as behind a call. */

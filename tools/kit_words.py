@@ -23,24 +23,24 @@ IMPORT = re.compile(
 LANGUAGE = {
     "`f : A → B`, `f x`": "f takes an A and gives a B; f at x",
     "`Type 0`": "a statement or a set of values: `A → Type 0` is a property of A",
-    "`(x : A) → P x`": "for each x of A, P x; an argument in `{}` is left out where it is plain",
+    "`(x : A) → P x`": "for each x of A, P x; one in `{}` may be left out",
     "`(x : A) × P x`": "there is an x of A with P x",
     "`A × B`, `A ⊎ B`, `¬ A`, `⊥`": "both; one of them; A is false; what never holds",
-    "`(a, b)`, `p.0`, `p.1`": "a pair, its first part, its second; `p.1.0` the second of three",
+    "`(a, b)`, `p.0`, `p.1`": "a pair and its parts; `p.1.0` is the second of three",
     "`λ x. e`": "the function that gives e at x",
     "`let x = e in f`": "f, where x is e",
     "`record .. where`, `r.field`": "a record: as a statement, all its fields hold",
     "`data .. where`": "a type by its variants, as Rust's enum",
     "`abbrev`": "a short name, always read as its right side",
-    "`unfoldable`": "proofs open it only where they say so; the meaning is the same",
-    "`pub`, `use`, `as`": "others may import it; imports; under another name",
+    "`unfoldable`": "proofs open it only where they say so",
+    "`pub`, `use`, `as`": "may be imported; imports; under another name",
     "`f ≡ ..` on several lines": "the first line that fits counts, as in a `match`",
     "`x ← a` in `do`": "with the value of a, if it has one, else none",
     "`x.now`": "what the reference x points to",
-    "`x.old`, `x.new`": "that before the call and after it, for a `&mut`",
+    "`x.old`, `x.new`": "before the call and after it, for a `&mut`",
     "`result`": "what the call returns",
     "`requires`, `ensures`": "what callers must prove; what is proved of each return",
-    "`declared`": "a type or constant of the code, as in `specs.declared.digest`",
+    "`declared`": "of the code, as in `specs.declared.digest`",
     "`TheConstants`, `TheVariants`": "a module's constants; an enum's variants",
 }
 # The words of a line stand beside each other, and say one thing each, in that order.
@@ -52,20 +52,19 @@ LINES = {
         "result_ok option_map option_and_then": "`ok`, `map`, `and_then`",
         "option_or option_copied unwrap_or": "`or`, `copied`, `unwrap_or`",
         "map filter filter_map flat_map zip": "an iterator's, of a list",
-        "sum count_by list_all list_any position": "likewise: `sum`, `filter` and `count`, `all`, "
-                                                   "`any`, `position`",
+        "sum count_by list_all list_any position": "likewise, `count_by` of those that pass",
         "count_ones is_power_of_two div_ceil from_be_bytes to_be_bytes": "a number's",
         "is_control is_ascii_digit is_ascii_hexdigit is_ascii_uppercase encode_utf8":
             "a character's",
     },
     "Numbers and truth values": {
-        "ℕ ℤ": "0, 1, 2, .. without end, so that a sum never wraps; also negative numbers",
+        "ℕ ℤ": "0, 1, 2, .. without end: no sum wraps; also negative",
         "zero suc pos": "0; one more; a number of ℕ as one of ℤ",
         "◌+◌ ◌*◌ ◌^◌": "sum; product; power",
         "◌-◌": "difference; 0 where it would be negative",
         "◌/◌ ◌%◌": "quotient, rounded down; remainder",
         "◌<◌ ◌≤◌ ◌≡◌ ◌≢◌": "statements: less; at most; equal; not equal",
-        "◌↔◌ ◌⊎◌ ⊤": "each follows from the other; one of two holds; what always holds",
+        "◌↔◌ ◌⊎◌ ⊤": "each follows from the other; one holds; always holds",
         "Bool true false": "`true` or `false`, as a value",
         "◌==◌ nat_eq": "whether equal, as a Bool",
         "nat_lt nat_le": "whether less; at most",
@@ -73,11 +72,11 @@ LINES = {
         "not ◌&&◌ ◌||◌": "the other Bool; both; one of them",
         "if◌then◌else◌ cond": "the first value if true, else the second",
         "IsTrue IsFalse": "a Bool is true; is false",
-        "bit_and bit_or bit_xor": "the bits that both have; one has; exactly one has",
+        "bit_and bit_or bit_xor": "the bits of both; of either; of exactly one",
         "IsPowerOfTwo": "exactly one bit is 1",
         "w32 w64 w128": "widths of as many bits",
-        "bytes_high_first": "`bytes_high_first k n`: the lowest k bytes of n, the highest first",
-        "number_from_digits": "the number of digits to a base, the highest first",
+        "bytes_high_first": "`bytes_high_first k n`: the lowest k bytes of n, highest first",
+        "number_from_digits": "the number of digits to a base, highest first",
         "decimal": "a number's decimal digits as bytes",
         "digit_value hex_digit_value": "a digit's value to a base; a hex digit's",
         "iterate": "`iterate h n x`: h applied n times to x",
@@ -101,10 +100,8 @@ LINES = {
         "first_chunks": "`first_chunks n k xs`: the first k pieces of n elements",
         "is_sorted below_all": "whether the keys rise; whether a key is below all others",
         "into_iter_items YieldsFirstRef": "what an iterator still has; it gives the first",
-        "at_most UpTo IsWithinCount": "a count of an iterator with this bound; it is at most n; n "
-                                      "is at most it",
-        "Bor Lends": "a reference: `.now` is what it points to; what happens to the part happens "
-                     "to the whole",
+        "at_most UpTo IsWithinCount": "a bounded count of an iterator; it is at most n; at least n",
+        "Bor Lends": "a reference, to `.now`; what happens to the part happens to the whole",
         "sem type_size": "a type's values; its size in bytes",
         "coded_list coded_ℕ": "that a ghost value may be a list; a number",
     },
@@ -114,7 +111,7 @@ LINES = {
         "IsOk IsErr IsErrOf": "r is a value; an error; this error",
         "IsOkUnless": "a value, or this error",
         "IsSome IsNone": "there is a value; none",
-        "IfSome IsSomeAnd": "if there is a value, P holds of it; there is one, and P holds of it",
+        "IfSome IsSomeAnd": "if there is a value, P holds of it; there is one, and it does",
         "MatchOption": "one statement where there is no value, another of the value",
     },
     "Text": {
@@ -123,17 +120,16 @@ LINES = {
         "IsBytes IsAscii": "each number is below 256; below 128",
         "chars IsUtf8": "the characters of bytes in UTF-8; the bytes are UTF-8",
         "encode_lower": "hex of bytes, in lower case",
-        "decode_of decode_sized": "the bytes of hex, or why there are none; where there is room "
-                                  "for n bytes",
+        "decode_of decode_sized": "the bytes of hex, or why none; with room for n bytes",
         "FromHexError": "why some text is no hex",
         "encode encode_of": "base64 of bytes (RFC 4648); by some engine",
         "standard standard_no_pad url_safe_no_pad": "base64 (RFC 4648, 4); without `=`; base64url "
                                                     "(RFC 4648, 5) without `=`",
-        "unpadded_len IsStrict": "how many letters base64 has of n bytes; one text for each value",
+        "unpadded_len IsStrict": "letters of base64 of n bytes; one text for each value",
         "Json document value_view": "a value of JSON; of a text, if it is one; of a parsed value",
         "null boolean number string array object": "JSON's values",
-        "get HasUniqueKeys": "`get name v`: the member of that name, if there is one; no object "
-                             "has a name twice",
+        "get HasUniqueKeys": "`get name v`: the member of that name, if any; no object has a name "
+                             "twice",
         "path_parent": "a path's folder",
     },
     "Reading, writing, errors of the system": {
@@ -142,10 +138,10 @@ LINES = {
         "append_known Appends": "known bytes, and further ones; known bytes grow by these",
         "AppendsText": "a text grows by these",
         "Consumes Keeps IsAtEnd": "known bytes lose these in front; stay; are none",
-        "ReadConsumes ReadsAtMost": "a read took what it gave; gave no more than it had room for",
+        "ReadConsumes ReadsAtMost": "a read took what it gave; gave no more than its room",
         "first_piece": "the bytes up to the first of this value",
-        "drop_through DropsThrough": "what follows the first byte of this value; known bytes lose "
-                                     "all up to it",
+        "drop_through DropsThrough": "what follows the first such byte; known bytes lose all up to "
+                                     "it",
         "strip_last": "without a last byte of this value",
     },
     "Beside which ours are proved equal, and for tactics": {
@@ -171,8 +167,7 @@ an argument's place: `a ◌++◌ b` is written `a ++ b`. Other words are [define
 ## The kit's words
 {topics}
 """
-MADE = ("`tools/kit_words.py` makes this page of what these files import, and `tests/glossary.py` "
-        "fails where a word lacks a line.")
+MADE = "`tools/kit_words.py` makes this page; `tests/glossary.py` fails where a word lacks a line."
 
 
 def imported(files):

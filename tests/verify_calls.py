@@ -14,6 +14,8 @@ machine: --anew tries all. The last line is 'N passed, M failed'.
 import base64
 import collections
 import hashlib
+import importlib.machinery
+import importlib.util
 import multiprocessing
 import os
 import pathlib
@@ -287,6 +289,15 @@ class Calls(unittest.TestCase):
             counts[group] += int(count)
         self.assertEqual(counts, on_page(table), "the table of docs/VERIFY_CALLS.md is another")
 
+    def test_left_out(self):
+        """A function of the header that no case has run is named."""
+        loader = importlib.machinery.SourceFileLoader("check", str(ROOT / "verify/check_calls"))
+        check = importlib.util.module_from_spec(importlib.util.spec_from_loader("check", loader))
+        loader.exec_module(check)
+        names = check.not_run({})
+        self.assertIn("yz_digest", names)
+        ran = {name: {"digest"} for name in names if name != "yz_digest"}
+        self.assertEqual(check.not_run(ran), ["yz_digest"])
 
     @unittest.skipUnless(HAS_COMPILER, "aarch64-linux-gnu-gcc")
     def test_calls_for_arm(self):

@@ -106,7 +106,7 @@ $(ARCHIVE): $(OUT)/macos/libyezdopin.a
 else ifneq ($(ARCH),x86_64)
 $(WHOLE): $(OUT)/processor.o $(OUT)/status.o $(OBJECTS) $(OUT)/names
 	$(call one_object,$(filter %.o,$^))
-$(ARCHIVE): $(OUT)/processor.o $(OUT)/status.o $(TEXTS) c/split.awk
+$(ARCHIVE): $(OUT)/processor.o $(OUT)/status.o $(TEXTS) c/split.awk c/c.mk
 	$(call split,$(TEXTS),$(PIECES))
 	$(call pack_archive,$(PIECES)/*.o $(filter %.o,$^))
 else
@@ -124,7 +124,7 @@ $(ARCHIVE_V2) $(ARCHIVE_V3): %/libyezdopin.a: \
 	$(call archive,$(filter %.o,$^))
 $(WHOLE): $(OUT)/dispatch.o $(OUT)/processor.o $(OUT)/status.o $(OBJECTS) $(OUT)/names
 	$(call one_object,$(filter %.o,$^))
-$(ARCHIVE): $(OUT)/dispatch.o $(OUT)/processor.o $(OUT)/status.o $(TEXTS) c/split.awk
+$(ARCHIVE): $(OUT)/dispatch.o $(OUT)/processor.o $(OUT)/status.o $(TEXTS) c/split.awk c/c.mk
 	$(call split,$(firstword $(TEXTS)),$(PIECES)/v2,v2_)
 	$(call split,$(lastword $(TEXTS)),$(PIECES)/v3,v3_)
 	$(split_dispatcher)

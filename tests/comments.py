@@ -22,7 +22,8 @@ a module's page may name the one section of all its calls. A call without parame
 `output_len`, needs a comment and nothing more.
 
 Then it reads comments with a planted fault each, and fails where one isn't found. Of the comments
-tools/call_tables.py makes the tables of docs/API.md, which must be new. The last line is
+tools/call_tables.py makes the tables of docs/API.md, which must be new, with all its notes. The
+last line is
 'N passed, M failed'.
 """
 
@@ -234,10 +235,14 @@ def missed_faults():
 
 
 def tables_of_page(page):
-    """Whether docs/API.md has the tables of the comments, and whether a changed one shows."""
+    """Whether docs/API.md has the tables of the sources and notes, and whether a changed one and
+    a note without a call show."""
     yield call_tables.is_as_written(page), "other tables: run `python3 tools/call_tables.py`"
-    changed = page.replace("|Writes ", "|Gives ", 1)
+    changed = page.replace("|255 digests|", "|256 digests|", 1)
     yield not call_tables.is_as_written(changed), "a planted fault is not found"
+    yield call_tables.has_all_notes(page), "a note of tools/call_tables.py is of no call"
+    without = page.replace("|255 digests|", "||", 1)
+    yield not call_tables.has_all_notes(without), "a planted note of no call is not found"
 
 
 def main():

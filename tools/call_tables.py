@@ -1,6 +1,5 @@
-"""Writes the tables of docs/API.md, from the line "## Calls" on, as the comments of the sources
-have them: each call with its parameters, the first sentence of its comment, shortened, and a mark
-where it can be refused.
+"""Writes the tables of docs/API.md, from the line "## Calls" on, of the items of the sources: each
+call with its parameters, a mark where it can be refused, and what NOTES say of it.
 
 `python3 tools/call_tables.py` writes them anew; tests/comments.py compares them.
 """
@@ -24,48 +23,56 @@ LEFT_OUT = (
     "ring_core::error", "ring_core::polyfill", "ring_store::laws", "ring_store_text::laws",
     "ring_password_hash::laws", "ring_merkle::laws", "ring_tokens::laws",
 )
-COLUMNS = "|Call|Gives|\n|-|-|"
-# What a table leaves out of a sentence: a section of a standard and a law, and where a link leads.
-SHORTER = (
-    (re.compile(r" \((?:FIPS|RFC|\[`)[^()]*(?:\([^()]*\))?\)"), ""),
-    (re.compile(r"\[(`[^`]+`)\](?:\([^)]*\))?"), r"\1"),
-)
-# What a table leaves out of a first sentence: what its column, the marks and the parameters say,
-# and a longer part behind a colon, which explains the rest. One that still has more than MOST words
-# ends at its first comma, unless it says when exactly something holds.
-TOLD = (
-    (re.compile(r"^Returns (\w)"), lambda it: it[1].upper()),
-    (re.compile(r"(, runs the blocks that this completes)?,? and counts [^,]* on `meter`$"), ""),
-    (re.compile(r", and runs each block that is complete$"), ""),
-    (re.compile(r" (?:under|by|for) `(?:algorithm|alg)`(?! with)"), ""),
-    (re.compile(r", under `algorithm`.*|, with the initial words of .*"), ""),
-    (re.compile(r" with no memory but the call's own"), ""),
-    (re.compile(r"length in bytes of"), "length of"),
-    (re.compile(r"returns how many bytes it (?:is|has)"), "returns its length"),
-    (re.compile(r": (?:\S+ ){4}.*"), ""),
-)
-MOST = 15
-REFUSED = re.compile(r"Refused ")
-
-
-def sentences(comment):
-    """The sentences of a comment's paragraphs, without tables and code."""
-    for paragraph in re.sub(r"```.*?```", "", comment, flags=re.S).split("\n\n"):
-        text = " ".join(paragraph.split())
-        for pattern, shorter in SHORTER:
-            text = pattern.sub(shorter, text)
-        if not text.startswith(("|", "- ")):
-            yield from filter(None, re.split(r"(?<=[\w)`\]])(?:\.|:$)(?:\s|$)", text))
-
-
-def told(item):
-    """What a comment says first that the item gives."""
-    text = next((it for it in sentences(item.comment) if not REFUSED.match(it)), "")
-    for pattern, shorter in TOLD:
-        text = pattern.sub(shorter, text)
-    if len(text.split()) > MOST and "exactly" not in text:
-        text = re.split(r", (?!and that )", text)[0]
-    return text.replace("|", r"\|")
+# What name and parameters of a call don't say, in some eight words. The whole is in its comment.
+NOTES = {
+    "ring::bb::xor_assign_at_start": "up to the end of the shorter",
+    "ring::digest::digest_each_bytes_in": "the digests, one after another",
+    "ring::digest::is_len_of_digests": "what `digest_each_bytes_in` asks of `out`",
+    "ring::digest::update_each_counted": "each piece to the context at its index",
+    "ring::hkdf::is_output_within": "whether HKDF expands to `len` bytes",
+    "ring::hkdf::max_okm_len": "255 digests",
+    "ring::hkdf::Okm::fill": "the whole of `out`",
+    "ring::hkdf::Prk::new_less_safe": "the PRK is `value`, without an extract",
+    "ring::hmac::is_tag_within": "whether HMAC signs `len` bytes",
+    "ring::hmac::Key::generate": "of the next bytes of `rng`",
+    "ring::pbkdf2::verify": "an empty value is refused",
+    "ring::pbkdf2::max_dk_len": "`2^32 - 1` digests",
+    "ring::pbkdf2::derive_each_counted": "keys of `N` bytes",
+    "ring::pbkdf2::verify_each_counted": "values of `N` bytes",
+    "ring::rand::generate": "of the next bytes of `rng`",
+    "ring::rand::SecureRandom::is_ready": "whether `fill` would write `len` bytes",
+    "ring_store::PasswordStore::run": "the calls of `commands`, in order",
+    "ring_store::PasswordStore::record": "iteration count and credential",
+    "ring_store::PasswordStore::remove": "says whether there was a record",
+    "ring_store::PasswordStore::name_at": "in the order of names",
+    "ring_store::PasswordStore::new_in": "in memory of any allocator",
+    "ring_store::PasswordStore::set_password": "of a new or known name",
+    "ring_store::PasswordStore::verify_password": "derives a record of fewer iterations again",
+    "ring_store::PasswordStore::check_password": "changes no record",
+    "ring_store::PasswordStore::set_iterations": "of new credentials",
+    "ring_store::TokenMaker::new": "its key by HKDF with SHA-256",
+    "ring_store::TokenMaker::check": "also that `expiry` is not before `now`",
+    "ring_password_hash::needs_preparation": "by SASLprep, for `Scheme::Postgresql`",
+    "ring_password_hash::verify": "`text` is of any scheme",
+    "ring_password_hash::Stored::parse": "of any scheme",
+    "ring_password_hash::Stored::write_to": "returns the length, at most `MAX_TEXT_LEN`",
+    "ring_password_hash::salt::Salt::of": "the salt that `bytes` make",
+    "ring_merkle::verify_consistency": "whether the first tree begins the second",
+    "ring_merkle::verify_inclusion": "whether the leaf hash is at `index`",
+    "ring_merkle::tree_root": "of leaf hashes",
+    "ring_merkle::Tree::push": "a leaf's hash",
+    "ring_tokens::claims::is_current": "whether a claims set is current at `now`",
+    "ring_tokens::jws::verify": "the payload",
+    "ring_tokens::jws::verify_in_place": "the payload, at the start of `out`",
+    "ring_tokens::jws::sign_in_place": "at the start of `out`",
+    "ring_tokens::jws::sign": 'under the header `{"alg":..,"typ":"JWT"}`',
+    "ring_tokens::otp::eight_digits": "of a number below 10^8",
+    "ring_tokens::otp::find_hotp": "the first counter whose password is `text`",
+    "ring_tokens::otp::totp": "`time` in seconds since 1970",
+    "ring_tokens::otp::find_totp": "the first step whose password is `text`",
+    "ring_tokens::webhook::verify_github": "`header` is `X-Hub-Signature-256`",
+    "ring_tokens::webhook::verify_stripe": "`header` is `Stripe-Signature`",
+}
 
 
 def marks(item, found):
@@ -94,13 +101,26 @@ def link(item, name):
     return f"[`{name}`](../{item.module.file.relative_to(rattle_items.ROOT)})"
 
 
-def rows_of(owner, found):
-    """The rows of the calls among some items, of a type where there is one."""
+def rows_of(page, owner, found):
+    """The rows of the calls among some items of a module, of a type where there is one: each with
+    its note, if it has one."""
     names = {item.name for item in found}
     for item in (it for it in found if is_row(it, names)):
         name = f"{owner}::{item.name}" if owner else item.name
         call = f"{link(item, name)}`({', '.join(item.parameters)})`{marks(item, found)}"
-        yield f"|{call}|{told(item)}|"
+        yield call, NOTES.get(f"{page}::{name}")
+
+
+def table(rows):
+    """A table of calls, with a column of notes where one has any."""
+    if not any(note for _, note in rows):
+        return "\n".join(["|Call|", "|-|", *(f"|{call}|" for call, _ in rows)])
+    return "\n".join(["|Call|Note|", "|-|-|", *(f"|{call}|{note or ''}|" for call, note in rows)])
+
+
+def shown_name(page):
+    """The name under which a caller finds a module: `ring` exports those of `ring_core`."""
+    return re.sub("^ring_core::", "ring::", page.name)
 
 
 def named(sources, item):
@@ -119,10 +139,10 @@ def lines_of_page(sources, page):
     types = [it for it in found if it.kind in ("struct", "enum", "trait")]
     constants = [f"`{it.name}`" for it in found if it.kind == "const"]
     shown = ", ".join([*(named(sources, it) for it in types), *constants])
-    rows = list(rows_of("", [it for it in found if it.kind == "fn"]))
+    rows = list(rows_of(shown_name(page), "", [it for it in found if it.kind == "fn"]))
     for item in types:
-        rows += rows_of(item.name, sources.members(item))
-    return list(filter(None, [shown, "\n".join([COLUMNS, *rows]) if rows else ""]))
+        rows += rows_of(shown_name(page), item.name, sources.members(item))
+    return list(filter(None, [shown, table(rows) if rows else ""]))
 
 
 def tables():
@@ -132,12 +152,17 @@ def tables():
     for page in sources.pages:
         shown = [] if page.name.startswith(LEFT_OUT) else lines_of_page(sources, page)
         if shown:
-            parts += ["### `" + re.sub("^ring_core::", "ring::", page.name) + "`", *shown]
+            parts += [f"### `{shown_name(page)}`", *shown]
     return "\n\n".join(part.strip("\n") for part in parts) + "\n"
 
 
+def has_all_notes(text):
+    """Whether a text has a row for each note: none is of a call that isn't there."""
+    return len(re.findall(r"^\|\[[^|]*\|[^|]+\|$", text, re.M)) == len(NOTES)
+
+
 def is_as_written(page=None):
-    """Whether the page, or another text of it, has the tables that the comments give."""
+    """Whether the page, or another text of it, has the tables that the sources and NOTES give."""
     return (PAGE.read_text() if page is None else page).endswith(f"\n{tables()}")
 
 

@@ -9,10 +9,10 @@ processors and systems: the columns of others stay as they are.
 """
 
 import pathlib
+import re
 import sys
 
 sys.dont_write_bytecode = True
-import identify
 import kernels
 from elf import ARM, X86, Library
 from pe import Dll, is_dll
@@ -33,7 +33,11 @@ COLUMNS = {(X86, "Linux"): ["Linux v2", "Linux SHA", "Linux v3"],
            (X86, "Windows"): ["Windows v2", "Windows SHA", "Windows v3"],
            (ARM, "Linux"): ["ARM", "ARM SHA"]}
 ALL_COLUMNS = [it for columns in COLUMNS.values() for it in columns]
-SHOWN, LACKS = "yes", "lacks"
+# A cell has the numbers of lanes that are shown, 1 for a function without lanes, and `no 4` where
+# the library lacks the function in 4. Rows that differ by their words alone are one, as
+# `of 4/6/8 words`.
+LANES = re.compile(r" in (\d+) lanes")
+WORDS = re.compile(r" of ([\d/]+) words")
 
 
 def column(kernel, columns):
@@ -43,22 +47,37 @@ def column(kernel, columns):
 
 
 def functions(library):
-    """What is computed by which function, each with the columns of the library that have it."""
+    """What functions compute, each with the columns of the library that have some, and in how many
+    lanes."""
     rows, columns = {}, COLUMNS[library.machine, library.system]
     for it in kernels.of(library):
         what = it.what.replace(" by instructions", "")
-        name = f"`{identify.short_name(it.symbol.name)}`" if it.symbol else ""
-        rows.setdefault((what, name), {})[column(it, columns)] = SHOWN if it.symbol else LACKS
-    return rows
+        lanes = (LANES.search(what) or ["", "1"])[1]
+        cells = rows.setdefault(LANES.sub("", what), {}).setdefault(column(it, columns), [])
+        cells.append(lanes if it.symbol else f"no {lanes}")
+    return {what: {name: "/".join(sorted(set(it))) for name, it in cells.items()}
+            for what, cells in rows.items()}
 
 
 def rows_of(table):
     """The rows of a table of the page, as `functions` gives them."""
     rows = {}
     for line in table.splitlines()[2:]:
-        what, name, *cells = line[1:-1].split("|")
-        rows[what, name] = dict(zip(ALL_COLUMNS, cells))
+        what, *cells = line[1:-1].split("|")
+        for words in (WORDS.search(what) or ["", ""])[1].split("/"):
+            rows[WORDS.sub(f" of {words} words", what)] = dict(zip(ALL_COLUMNS, cells))
     return rows
+
+
+def lines_of_rows(rows):
+    """The lines of a table, one for rows that differ by their words alone."""
+    merged = {}
+    for what, row in sorted(rows.items()):
+        cells = "|".join(row.get(it, "") for it in ALL_COLUMNS)
+        words = (WORDS.search(what) or ["", ""])[1]
+        if any(row.values()):
+            merged.setdefault((WORDS.sub(" of {} words", what), cells), []).append(words)
+    return [f"|{what.format('/'.join(words))}|{cells}|" for (what, cells), words in merged.items()]
 
 
 def with_functions(table, library):
@@ -67,28 +86,22 @@ def with_functions(table, library):
     for cells in rows.values():
         for it in COLUMNS[library.machine, library.system]:
             cells[it] = ""
-    for key, cells in made.items():
-        rows.setdefault(key, {}).update(cells)
-    found = ["|What|Function|" + "|".join(ALL_COLUMNS) + "|", "|-|-|" + "-|" * len(ALL_COLUMNS)]
-    found += [f"|{what}|{name}|" + "|".join(cells.get(it, "") for it in ALL_COLUMNS) + "|"
-              for (what, name), cells in sorted(rows.items()) if any(cells.values())]
-    return "\n".join(found) + "\n"
+    for what, cells in made.items():
+        rows.setdefault(what, {}).update(cells)
+    head = ["|What|" + "|".join(ALL_COLUMNS) + "|", "|-|" + "-|" * len(ALL_COLUMNS)]
+    return "\n".join(head + lines_of_rows(rows)) + "\n"
 
 
 def lines():
-    """The files of the checker, with their lines: those of kernels of both processors, and the
-    further ones of whole calls, which are of x86-64."""
-    def count(files):
-        return sum((ROOT / "verify" / it).read_text().count("\n") for it in files)
-
-    rows = ["|File|Lines|", "|-|-|"]
-    for of, files, all_files in (
-            ("kernels of x86-64", TRUSTED + OF_X86, TRUSTED + OF_X86),
-            ("kernels of Windows", OF_WINDOWS, TRUSTED + OF_X86 + OF_WINDOWS),
-            ("kernels of 64-bit ARM", OF_ARM, TRUSTED + OF_ARM),
-            ("whole calls", OF_CALLS, TRUSTED + OF_X86 + OF_CALLS)):
-        rows += [f"|`{it}`|{count([it])}|" for it in files]
-        rows.append(f"|all for {of}|{count(all_files)}|")
+    """The lines of the checker's files: of kernels of both processors, and of whole calls, which
+    are of x86-64."""
+    rows = ["|For|Lines|", "|-|-|"]
+    for of, files in (("kernels of x86-64", TRUSTED + OF_X86),
+                      ("kernels of Windows", TRUSTED + OF_X86 + OF_WINDOWS),
+                      ("kernels of 64-bit ARM", TRUSTED + OF_ARM),
+                      ("whole calls", TRUSTED + OF_X86 + OF_CALLS)):
+        count = sum((ROOT / "verify" / it).read_text().count("\n") for it in files)
+        rows.append(f"|{of}|{count}|")
     return "\n".join(rows) + "\n"
 
 

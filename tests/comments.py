@@ -21,9 +21,8 @@ over vectors of another width' needs no more, where it takes no other parameters
 a module's page may name the one section of all its calls. A call without parameters, such as
 `output_len`, needs a comment and nothing more.
 
-Then it reads comments with a planted fault each, and fails where one isn't found. Of the comments
-tools/call_tables.py makes the tables of docs/API.md, which must be new, with all its notes. The
-last line is
+Then it reads comments with a planted fault each, and fails where one isn't found. The tables of
+docs/API.md must be as tools/call_tables.py makes them, with all its notes. The last line is
 'N passed, M failed'.
 """
 

@@ -1,6 +1,7 @@
 # SPDX-License-Identifier: ISC
 """What has no second source but `hashlib`."""
 
+import contextlib
 import os
 import pathlib
 import re
@@ -350,6 +351,37 @@ class Alone(Case):
             total = peak_of.seconds
             self.assertLess(at_first, total / 2)
 
+    def test_output_that_fails(self):
+        """At a line that can't be written a run ends: a full disk, and a pipe without a reader."""
+        self.write("a", b"1")
+        self.write("t/b", b"1")
+        line = self.lines(["a"])
+        self.write("list", line)
+        self.write("long", line + digest_of("sha256", b"") + b"  p\n")
+        os.mkfifo(self.path / "p")  # which nobody writes to: whoever reads it waits
+        rows = [
+            ["a", "/dev/zero"], ["a", "p"], ["--tag", "a", "p"], ["-z", "a", "p"],
+            ["-r", "t", "p"], ["a", "missing"], ["-", "p"], ["-c", "long"], ["-c", "list", "p"],
+            ["-c", "--ignore-missing", "list", "p"], ["-cw", "list", "p"], ["-c", "-", "p"],
+        ]
+        for build in BUILDS:
+            for words in rows:
+                for output in (full_disk, pipe_without_a_reader):
+                    with self.subTest(words=words, output=output.__name__), output() as file:
+                        found = run(build, words, self.path, given=line, stdout=file, timeout=5)
+                        self.assertEqual(found[::2], (1, b"sums: write error\n"))
+
+    def test_reader_that_goes_away(self):
+        """A run as typed in a shell ends soon behind the reader of its output."""
+        self.write("a", b"1")
+        names = "$(yes a | head -n 2000)"  # with more lines than a pipe holds
+        typed = f'timeout 5 "$0" {names} /dev/zero | head -n 1; echo "${{PIPESTATUS[0]}}"'
+        for build in BUILDS:
+            found = subprocess.run(["bash", "-c", typed, build], cwd=self.path, timeout=TIMEOUT,
+                                   stdout=subprocess.PIPE, stderr=subprocess.PIPE)
+            self.assertEqual(found.stdout, self.lines(["a"]) + b"1\n")
+            self.assertEqual(found.stderr, os.fsencode(build) + b": write error\n")
+
     def test_closed_pipe(self):
         """A reader that goes away ends the run, by the signal or with status 1."""
         names = [f"f{place}" for place in range(3000)]
@@ -366,6 +398,18 @@ class Alone(Case):
             reasons = (b"write error: Broken pipe", b"write error")
             told = [(1, b"sums: " + reason + b"\n") for reason in reasons]
             self.assertIn((status, error), [(-13, b""), *told])
+
+
+def full_disk():
+    return open("/dev/full", "wb")
+
+
+@contextlib.contextmanager
+def pipe_without_a_reader():
+    reader, writer = os.pipe()
+    os.close(reader)
+    with open(writer, "wb") as file:
+        yield file
 
 
 def start(program, words, folder, **settings):

@@ -104,6 +104,27 @@ class Failing(Case):
             self.in_turn("FAILED_CALL", ["-"], lambda found: found[1] in (b"", line), given)
             self.in_turn("FAILED_CALL", ["-c"], self.is_honest_check, given)
 
+    def test_no_call_behind_a_failed_write(self):
+        """A run of which a write fails makes no call behind it: a listing, a tree, checks."""
+        self.write_trees()
+        text = b"".join(self.lines)
+        rows = [
+            (["x", "long name", "z"], b""), (["-r", "t", "u"], b""), (["-c", "list"], b""),
+            (["-c", "list", "-", "list"], text),
+        ]
+        for build, (words, given) in itertools.product(BUILDS, rows):
+            run_by = functools.partial(run, build, words, self.path, given=given)
+            whole, calls, _ = self.preload.watched(run_by, COUNTED=COUNTED)
+            lines = whole[1].splitlines(keepends=True)
+            writes = [place for place, name in enumerate(calls, 1) if name == "write"]
+            self.assertEqual(len(writes), len(lines))
+            for line, number in enumerate(writes):
+                settings = {"COUNTED": COUNTED, "FAILED_CALL": number}
+                found, made, _ = self.preload.watched(run_by, **settings)
+                with self.subTest(words=words, number=number):
+                    self.assertEqual(made, calls[:number])
+                    self.assertEqual(found, (1, b"".join(lines[:line]), b"sums: write error\n"))
+
     def write_trees(self):
         """Writes two trees, of which `self.tree` has the lines."""
         self.tree = []

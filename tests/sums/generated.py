@@ -244,12 +244,19 @@ class BesideCoreutils(unittest.TestCase):
         for closed, words in itertools.product(range(3), rows):
             with self.subTest(closed=closed, words=words):
                 self.ends_alike(words, preexec_fn=lambda: os.close(closed))
-        rows = [
-            [b"a"], [b"a", b"missing", b"b.txt"], [b"-c", b"list"], [b"-c", b"--status", b"list"],
-        ]
-        for words in rows:
+        for words in ([b"a"], [b"-c", b"list"], [b"-c", b"--status", b"list"]):
             with self.subTest(full=words), open("/dev/full", "wb") as full:
                 self.ends_alike(words, stdout=full)
+
+    def test_files_behind_a_line_that_is_not_written(self):
+        """On a full disk coreutils read on, and tell of a file that is missing. Ours end."""
+        words, ends = [b"a", b"missing", b"b.txt"], b"sha256sum: write error\n"
+        told = b"sha256sum: missing: No such file or directory\n"
+        rows = [(shutil.which("sha256sum"), told + ends), *((build, ends) for build in BUILDS)]
+        for program, wanted in rows:
+            with open("/dev/full", "wb") as full:
+                found = run(program, words, self.folder, "sha256sum", stdout=full)
+            self.assertEqual(found, (1, None, wanted))
 
     def write_list(self):
         """Writes the list of one file."""

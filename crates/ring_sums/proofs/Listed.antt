@@ -1,14 +1,16 @@
 -- SPDX-License-Identifier: ISC
 -- The lines of files, one after another.
 use Rattle.std.proofs.Common.{◌≡◌, ℕ, Bool, ◌<◌, ◌&&◌, List, [], ◌∷◌, ◌++◌, ◌∙◌, Bor, Option, ap}
-use Rattle.std.proofs.Common.{append-nil, arith, get_or, length, refl, subst, sym}
+use Rattle.std.proofs.Common.{append-nil, arith, get_or, length, map, refl, subst, sym}
+use Rattle.std.specs.Prelude.{IsNone}
 use Rattle.std.proofs.Math.Bool.{and-true}
 use Rattle.std.proofs.KnownBytes.{Appends-nil, Appends-trans}
+use Rattle.std.proofs.lemmas.List.{map_push}
 use Rattle.std.proofs.lemmas.List.Concat.{flat_map-append}
 use Rattle.std.proofs.lemmas.List.Folds.{list_all-append}
 use Rattle.std.specs.List.{flat_map, list_all, zip}
-use Rattle.ring_sums.specs.Console.{HasWritten, IsKept}
-use Rattle.ring_sums.specs.Listing.{is_sum, line_of, lines_of}
+use Rattle.ring_sums.specs.Console.{AreWritten, HasWritten, InTurn, IsKept}
+use Rattle.ring_sums.specs.Listing.{each_line_of, is_sum, line_of, lines_of}
 use Rattle.ring_sums.specs.declared.console.Console.{Console}
 use Rattle.ring_sums.specs.declared.options.Options.{Options}
 use Rattle.ring_sums.specs.declared.outcome.Outcome.{Outcome}
@@ -60,18 +62,82 @@ module _ {R W : Type 0} {contents : W → Option (List ℕ)} where
       (ap (λ z. flat_map text items ++ z) (sym (append-nil (text item)))
       ∙ sym (flat_map-append text items (item ∷ []))) (written-more some one)
 
+turn-kept : {R W : Type 0} (contents : W → Option (List ℕ)) (lines : List (List ℕ))
+    (first : Console R W) {second third : Console R W} → InTurn contents lines first second
+    → IsKept second third → InTurn contents lines first third
+unfolding InTurn
+turn-kept contents [] first some kept =
+    record { out = kept.out ∙ some.out; failure = kept.failure ∙ some.failure }
+turn-kept contents (line ∷ lines) first some kept =
+    (some.0, some.1, some.2, turn-kept contents lines some.1 some.3 kept)
+
+module _ {R W : Type 0} {contents : W → Option (List ℕ)} where
+  written-behind : {first second third : Console R W} {text : List ℕ} → IsKept first second
+      → HasWritten contents text second third → HasWritten contents text first third
+  written-behind kept one =
+      record {
+        failure = λ none. rw kept.failure at one.failure none;
+        bytes = λ none. rw kept.out at one.bytes none;
+      }
+
+  turn-more : (lines : List (List ℕ)) (line : List ℕ) (first : Console R W)
+      {second third : Console R W} → InTurn contents lines first second → IsNone second.failure
+      → HasWritten contents line second third → InTurn contents (lines ++ line ∷ []) first third
+  unfolding InTurn
+  turn-more [] line first {third = third} some none one = (
+    rw some.failure at none,
+    third,
+    written-behind some one,
+    record { out = refl; failure = refl },
+  )
+  turn-more (before ∷ lines) line first some none one =
+      (some.0, some.1, some.2, turn-more lines line some.1 some.3 none one)
+
+  -- no line is written
+  pub apart-none : {new : Console R W} → AreWritten contents [] new new
+  unfolding InTurn
+  apart-none = record { is = record { out = refl; failure = refl } }
+
+  -- nothing is written behind them
+  pub apart-kept : {lines : List (List ℕ)} {first second third : Console R W}
+      → AreWritten contents lines first second → IsKept second third
+      → AreWritten contents lines first third
+  apart-kept {lines} {first} some kept =
+      record { is = turn-kept contents lines first some.is kept }
+
+  -- that of one item more is written, where none before has failed
+  pub apart-next : {X : Type 0} {first second third : Console R W} (text : X → List ℕ)
+      (items : List X) (item : X) → AreWritten contents (map text items) first second
+      → IsNone second.failure → HasWritten contents (text item) second third
+      → AreWritten contents (map text (items ++ item ∷ [])) first third
+  apart-next {first = first} {third = third} text items item some none one =
+      record {
+        is = subst (λ z. InTurn contents z first third) (sym (map_push text items item))
+            (turn-more (map text items) (text item) first some.is none one);
+      }
+
 -- the line of one more is written
-pub lines-more : {R W : Type 0} {contents : W → Option (List ℕ)} {old mid new : Console R W}
+module _ {R W : Type 0} {contents : W → Option (List ℕ)} {old mid new : Console R W}
     (options : Options) (names : List (Bor (List ℕ))) (outcomes : List Outcome)
-    (name : Bor (List ℕ)) (outcome : Outcome) → length outcomes < length names
-    → HasWritten contents (lines_of options names outcomes) old mid
-    → HasWritten contents (line_of options (get_or names (length outcomes) name).now outcome) mid
-    new
-    → HasWritten contents (lines_of options names (outcomes ++ outcome ∷ [])) old new
-lines-more options names outcomes name outcome below some one =
-    rw (zip-more names outcomes name outcome below)
-    (written-next (λ file. line_of options file.0.now file.1) (zip names outcomes)
-    (get_or names (length outcomes) name, outcome) some one)
+    (name : Bor (List ℕ)) (outcome : Outcome) (below : length outcomes < length names) where
+  pub lines-more : HasWritten contents (lines_of options names outcomes) old mid
+      → HasWritten contents
+      (line_of options (get_or names (length outcomes) name).now outcome) mid new
+      → HasWritten contents (lines_of options names (outcomes ++ outcome ∷ [])) old new
+  lines-more some one =
+      rw (zip-more names outcomes name outcome below)
+      (written-next (λ file. line_of options file.0.now file.1) (zip names outcomes)
+      (get_or names (length outcomes) name, outcome) some one)
+
+  pub each-more : AreWritten contents (each_line_of options names outcomes) old mid
+      → IsNone mid.failure
+      → HasWritten contents
+      (line_of options (get_or names (length outcomes) name).now outcome) mid new
+      → AreWritten contents (each_line_of options names (outcomes ++ outcome ∷ [])) old new
+  each-more some none one =
+      rw (zip-more names outcomes name outcome below)
+      (apart-next (λ file. line_of options file.0.now file.1) (zip names outcomes)
+      (get_or names (length outcomes) name, outcome) some none one)
 
 pub fine-more : (outcomes : List Outcome) (outcome : Outcome) {is_fine : Bool}
     → is_fine ≡ list_all is_sum outcomes

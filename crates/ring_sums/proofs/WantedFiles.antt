@@ -10,7 +10,8 @@ use Rattle.std.specs.List.{All}
 use Rattle.std.specs.declared.io.Error.{Error}
 use Rattle.ring.specs.declared.digest.algorithm.Algorithm.{Algorithm}
 use Rattle.ring_sums.specs.Outcome.{IsOutcome}
-use Rattle.ring_sums.specs.Outcomes.{AreGathered, FileIsGiven, FilesToCome, IsNextOf, IsOutcomeOf}
+use Rattle.ring_sums.specs.Outcomes.{AreDone, AreGathered, FileIsGiven, FilesToCome, IsNextOf}
+use Rattle.ring_sums.specs.Outcomes.{IsOutcomeOf}
 use Rattle.ring_sums.specs.Sums.{ReaderIsGiven, ReadersToCome}
 use Rattle.ring_sums.specs.declared.outcome.Outcome.{Outcome}
 use Rattle.ring_sums.specs.declared.outcomes.Outcomes.{Outcomes}
@@ -112,16 +113,6 @@ pub some-first : {R : Type 0} {remaining : R → Option (List ℕ)} {fails_with 
 some-first {new = new} so fewer =
     omega (arith, fewer, ap length so.whole, length-append so.first new.waiting.items)
 
--- the first files are done, of which this holds, and the outcomes of the rest are to come
-pub record AreDone {R : Type 0} (remaining : R → Option (List ℕ)) (fails_with : R → Error → Bool)
-    (wanted : List (Wanted R)) (state : Outcomes R) (Holds : List (Wanted R) → Type 0)
-    : Type 0 where
-  pub done : List (Wanted R)
-  pub rest : List (Wanted R)
-  pub whole : wanted ≡ done ++ rest
-  pub to_come : FilesToCome remaining fails_with rest state
-  pub is : Holds done
-
 none-left : {R : Type 0} {remaining : R → Option (List ℕ)} {fails_with : R → Error → Bool}
     {new : Outcomes R} (rest : List (Wanted R)) → FileIsGiven remaining fails_with rest None new
     → length rest ≡ 0
@@ -153,12 +144,10 @@ module _ {R : Type 0} {remaining : R → Option (List ℕ)} {fails_with : R → 
       let none = none-left rest given in
       omega (arith, none, ap length whole, length-append done rest)
 
-  -- all are where there are as many
-  pub done-all : {Holds : List (Wanted R) → Type 0} {state : Outcomes R}
-      → (so : AreDone remaining fails_with wanted state Holds)
-      → length so.done ≡ length wanted → Holds wanted
-  done-all {Holds} so many =
-      let none : so.rest ≡ [] = nil_from_length so.rest
-      (omega (arith, many, ap length so.whole, length-append so.done so.rest)) in
-      let whole : wanted ≡ so.done = so.whole ∙ ap (λ z. so.done ++ z) none ∙ append-nil so.done in
-      subst Holds (sym whole) so.is
+-- all are done where there are as many
+pub done-all : {R : Type 0} {wanted : List (Wanted R)} (done rest : List (Wanted R))
+    → wanted ≡ done ++ rest → length done ≡ length wanted → done ≡ wanted
+done-all done rest whole many =
+    let none : rest ≡ [] = nil_from_length rest
+    (omega (arith, many, ap length whole, length-append done rest)) in
+    sym (whole ∙ ap (λ z. done ++ z) none ∙ append-nil done)

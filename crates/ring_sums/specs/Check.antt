@@ -7,7 +7,7 @@ use Rattle.std.specs.List.{AllZip}
 use Rattle.std.specs.IoError.{error_kind, os_error_kind}
 use Rattle.std.specs.declared.io.Error.{Error}
 use Rattle.ring.specs.declared.digest.algorithm.Algorithm.{Algorithm}
-use Rattle.ring_sums.specs.Console.{HasWritten}
+use Rattle.ring_sums.specs.Console.{AreWritten, HasWritten}
 use Rattle.ring_sums.specs.Entry.{IsVerdict}
 use Rattle.ring_sums.specs.Line.{verdict_line}
 use Rattle.ring_sums.specs.Outcomes.{IsOutcomeOf}
@@ -112,7 +112,8 @@ pub record Finding : Type 0 where
   pub found : Option Verdict
 
 -- each file that a list has is read and its digest found beside the listed one, what is found of
--- each is said, in their order, and counted, and so are the lines that have not the form of one
+-- each is said, in their order, none behind a line that could not be written, and counted, and so
+-- are the lines that have not the form of one
 pub record IsChecked {S R W : Type 0} (remaining : S → Option (List ℕ))
     (fails_with : S → Error → Bool) (contents : W → Option (List ℕ)) (options : Options)
     (lines : List Line) (wanted : List (Wanted S)) (counts : Counts) (old new : Console R W)
@@ -123,5 +124,7 @@ pub record IsChecked {S R W : Type 0} (remaining : S → Option (List ℕ))
   pub found : All (λ f. IsFound options f.entry.listed.items f.outcome f.found) findings
   pub said : HasWritten contents
       (flat_map (λ f. said_of options.amount f.entry.name.items f.found) findings) old new
+  pub stops : AreWritten contents
+      (map (λ f. said_of options.amount f.entry.name.items f.found) findings) old new
   pub counted : AreCounted (map (λ f. f.found) findings) counts
   pub bad : counts.bad_lines ≡ bad_lines_of lines

@@ -38,6 +38,15 @@ pub record FilesToCome {R : Type 0} (remaining : R → Option (List ℕ))
       outcomes.run
   pub whole : files ≡ first ++ outcomes.waiting.items
 
+-- the first files are done, of which this holds, and the outcomes of the rest are to come
+pub record AreDone {R : Type 0} (remaining : R → Option (List ℕ)) (fails_with : R → Error → Bool)
+    (files : List (Wanted R)) (left : Outcomes R) (Holds : List (Wanted R) → Type 0) : Type 0 where
+  pub done : List (Wanted R)
+  pub rest : List (Wanted R)
+  pub whole : files ≡ done ++ rest
+  pub to_come : FilesToCome remaining fails_with rest left
+  pub is : Holds done
+
 pub record FileIsGiven {R : Type 0} (remaining : R → Option (List ℕ))
     (fails_with : R → Error → Bool) (files : List (Wanted R)) (outcome : Option Outcome)
     (new : Outcomes R) : Type 0 where

@@ -1,14 +1,17 @@
 // SPDX-License-Identifier: ISC
 //! The check of a list.
 
-ghost use Rattle.std.specs.Prelude.{◌≡◌, ◌↔◌, ◌<◌, ◌-◌, ◌^◌, ◌∷◌, ◌++◌, [], IfOk, IsTrue, List};
-ghost use Rattle.std.specs.Prelude.{IsNone, OnOk, Option, Some, cond, length, map, option_map};
+ghost use Rattle.std.specs.Prelude.{◌≡◌, ◌↔◌, ◌<◌, ◌-◌, ◌^◌, ◌∷◌, ◌++◌, ℕ, [], IfOk, IsTrue};
+ghost use Rattle.std.specs.Prelude.{IsNone, List, OnOk, Option, Some, cond, length, map};
+ghost use Rattle.std.specs.Prelude.{option_map, take};
 ghost use Rattle.std.specs.IoError.{error_kind};
 ghost use Rattle.ring_sums.specs.declared.entry.Verdict.{Verdict};
 ghost use Rattle.ring_sums.specs.Check.{AreFilesOf, IsChecked, IsFound, IsLeftOut, Passes};
 ghost use Rattle.ring_sums.specs.Check.{entries_of, is_found, known_after, said_of, text_of};
 ghost use Rattle.ring_sums.specs.Console.{HasWritten, IsKept};
 ghost use Rattle.ring_sums.specs.Files.{name_of};
+ghost use Rattle.ring_sums.specs.Outcomes.{AreDone, FilesToCome};
+ghost use Rattle.ring_sums.specs.declared.outcomes.Wanted.{Wanted};
 
 use crate::console::Console;
 use crate::entry::{Entry, Gap, Verdict, tag_of, verdict_of};
@@ -202,13 +205,14 @@ fn warn_of_line<R: Eprint, W: Write>(
 }
 
 /// Says of each line of a list what is found of its file, in their order. `known` is the algorithm
-/// of the last file that was listed before.
+/// of the last file that was listed before. Behind a line that cannot be written none is, no
+/// further outcome is asked for, and what is counted is of the lines so far.
 fn check_lines<S, R, W>(
     alloc: Global,
     options: &Options,
     list: &[u8],
     lines: &[Line],
-    wanted: Vec<Wanted<S>>,
+    outcomes: &mut Outcomes<S>,
     known: &mut Option<Algorithm>,
     console: &mut Console<'_, R, W>,
 ) -> Result<Counts, AllocError>
@@ -216,13 +220,19 @@ where
     S: Source + Drop,
     R: Eprint,
     W: Write,
-    ensures { IfOk result (λ counts. AreFilesOf (entries_of lines.now) wanted.items
-        → IsChecked S.remaining S.fails_with W.contents options.now lines.now wanted.items counts
-        console.old console.new) }
+    ensures { IfOk result (λ counts. (files : List (Wanted S))
+        → AreFilesOf (entries_of lines.now) files
+        → FilesToCome S.remaining S.fails_with files outcomes.old
+        → AreDone S.remaining S.fails_with files outcomes.new (λ done. (count : ℕ)
+        × IsChecked S.remaining S.fails_with W.contents options.now (take count lines.now) done
+        counts console.old console.new
+        × (IsNone console.new.failure → (take count lines.now ≡ lines.now) × (done ≡ files)))) }
 {
-    let mut outcomes = Outcomes::new(alloc, wanted);
     let mut counts = Counts::default();
     for line in lines {
+        if console.has_failed() {
+            return Ok(counts);
+        }
         *known = known_after(*known, line);
         match line {
             Line::Bad(number) => {
@@ -339,7 +349,7 @@ pub(crate) struct Seen {
 }
 
 /// Reads a list, says of each of its files whether it has the listed digest, and returns whether
-/// the list passes.
+/// the list passes. Where a line cannot be written it does not, and nothing is told of it.
 pub(crate) fn check_list<R, W>(
     rt: &R,
     options: &Options,
@@ -367,7 +377,11 @@ where
     let alloc = rt.alloc();
     let lines = lines_of(alloc, options, &text, is_standard_input, &mut seen.gap)?;
     let wanted = files_of(rt, console.progress(), &lines)?;
+    let mut outcomes = Outcomes::new(alloc, wanted);
     let known = &mut seen.known;
-    let counts = check_lines(alloc, options, shown, &lines, wanted, known, console)?;
+    let counts = check_lines(alloc, options, shown, &lines, &mut outcomes, known, console)?;
+    if console.has_failed() {
+        return Ok(false);
+    }
     conclude(alloc, options, shown, &failure, &counts, console)
 }

@@ -81,6 +81,13 @@ impl<'a, R: Eprint, W: Write> Console<'a, R, W> {
         self.program
     }
 
+    /// Whether a line could not be written.
+    pub(crate) fn has_failed(&self) -> bool
+        ensures { IsFalse result ↔ IsNone self.now.failure }
+    {
+        self.failure.is_some()
+    }
+
     /// Writes a line, unless one before could not be written.
     pub(crate) fn write(&mut self, line: &[u8])
         ensures { HasWritten W.contents line.now self.old self.new }

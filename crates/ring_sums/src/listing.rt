@@ -1,15 +1,17 @@
 // SPDX-License-Identifier: ISC
 //! The lines of files, as a run without `--check` writes them.
 
-ghost use Rattle.std.specs.Prelude.{◌≡◌, IfOk, OnOk, length};
+ghost use Rattle.std.specs.Prelude.{◌≡◌, IfOk, IsNone, List, OnOk, length};
 ghost use Rattle.ring_sums.specs.Console.{HasWritten};
 ghost use Rattle.ring_sums.specs.Listing.{IsListed, is_sum, line_of};
+ghost use Rattle.ring_sums.specs.Outcomes.{AreDone, FilesToCome};
+ghost use Rattle.ring_sums.specs.declared.outcomes.Wanted.{Wanted};
 
 use crate::console::Console;
 use crate::line::append_file_line;
 use crate::options::Options;
 use crate::outcome::Outcome;
-use crate::outcomes::{Outcomes, Wanted};
+use crate::outcomes::Outcomes;
 use crate::source::Source;
 use std::alloc::{AllocError, Global};
 use std::io::{Eprint, Write};
@@ -45,27 +47,33 @@ fn answer<R: Eprint, W: Write>(
 }
 
 /// Writes the line of each file that can be read to its end, in their order, tells why the others
-/// have none, and returns whether there are no others. Files are named by `names`.
+/// have none, and returns whether there are no others. Files are named by `names`. Behind a line
+/// that cannot be written none is, and no further outcome is asked for.
 ///
 /// Refused where `alloc` has no memory.
 pub(crate) fn list<S, R, W>(
     alloc: Global,
     options: &Options,
     names: &[&[u8]],
-    wanted: Vec<Wanted<S>>,
+    outcomes: &mut Outcomes<S>,
     console: &mut Console<'_, R, W>,
 ) -> Result<bool, AllocError>
 where
     S: Source + Drop,
     R: Eprint,
     W: Write,
-    ensures { IfOk result (λ is_fine. length names.now ≡ length wanted.items
-        → IsListed S.remaining S.fails_with W.contents options.now names.now wanted.items is_fine
-        console.old console.new) }
+    ensures { IfOk result (λ is_fine. (files : List (Wanted S))
+        → FilesToCome S.remaining S.fails_with files outcomes.old
+        → length names.now ≡ length files
+        → AreDone S.remaining S.fails_with files outcomes.new (λ done.
+        IsListed S.remaining S.fails_with W.contents options.now names.now done is_fine console.old
+        console.new × (IsNone console.new.failure → done ≡ files))) }
 {
-    let mut outcomes = Outcomes::new(alloc, wanted);
     let mut is_fine = true;
     for name in names {
+        if console.has_failed() {
+            return Ok(is_fine);
+        }
         let Ok(next) = outcomes.next_outcome() else {
             return Err(AllocError);
         };

@@ -12,7 +12,7 @@ use crate::entry::Gap;
 use crate::files::{Source, wanted_of};
 use crate::listing::list;
 use crate::options::{Misuse, Options, Request, names_from, request_of};
-use crate::outcomes::Wanted;
+use crate::outcomes::{Outcomes, Wanted};
 use crate::progress::Progress;
 use crate::quote::joined;
 use crate::tree::files_of;
@@ -92,7 +92,8 @@ fn files_named<'a, R: Files + AllocGlobal + Input>(
     Ok(wanted)
 }
 
-/// Writes the line of each file, and returns whether all could be read.
+/// Writes the line of each file, up to one that cannot be written, and returns whether all before
+/// could be read.
 fn list_names<R, W>(
     rt: &R,
     options: &Options,
@@ -105,7 +106,8 @@ where
 {
     let algorithm = options.algorithm.unwrap_or(SHA256);
     let wanted = files_named(rt, console.progress(), names, algorithm)?;
-    list(rt.alloc(), options, names, wanted, console)
+    let mut outcomes = Outcomes::new(rt.alloc(), wanted);
+    list(rt.alloc(), options, names, &mut outcomes, console)
 }
 
 /// Tells why the arguments ask for nothing.
@@ -209,7 +211,10 @@ where
         known: options.algorithm,
     };
     for name in &operands {
-        is_fine = check_list(rt, options, *name, &mut seen, console)? && is_fine;
+        // Behind a line that could not be written no list is read.
+        is_fine = !console.has_failed()
+            && check_list(rt, options, *name, &mut seen, console)?
+            && is_fine;
     }
     Ok(is_fine)
 }

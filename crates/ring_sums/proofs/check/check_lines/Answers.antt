@@ -1,7 +1,8 @@
 -- SPDX-License-Identifier: ISC
-use Rattle.std.proofs.Common.{◌∙◌, ◌+◌, ◌<◌, ◌^◌, ◌∷◌, ◌++◌, [], Bool, ap, arith, length}
-use Rattle.std.proofs.Common.{List, length-take, map, refl, subst, sym, take}
+use Rattle.std.proofs.Common.{◌≡◌, ◌∙◌, ◌+◌, ◌<◌, ◌^◌, ◌∷◌, ◌++◌, [], Bool, ap, arith, length}
+use Rattle.std.proofs.Common.{List, length-take, map, refl, subst, sym, take, ℕ}
 use Rattle.std.specs.Prelude.{is_none}
+use Rattle.std.proofs.lemmas.Bool.{true≢false}
 use Rattle.std.proofs.lemmas.List.{map_push, take_all}
 use Rattle.std.proofs.lemmas.List.Elements.{All-nil, All-push}
 use Rattle.std.proofs.lemmas.List.Sums.{count_by-le-length, count_by_more_no, count_by_more_yes}
@@ -13,58 +14,75 @@ use Rattle.ring_sums.specs.declared.list.Line.{Line}
 use Rattle.ring_sums.specs.declared.outcomes.Wanted.{Wanted}
 use Rattle.ring_sums.proofs.CheckedLines.{entries-bad, entries-entry, entries-push, entry-below}
 use Rattle.ring_sums.proofs.CheckedLines.{files-many, findings-few, findings-many}
-use Rattle.ring_sums.proofs.Listed.{written-kept, written-next, written-none}
+use Rattle.ring_sums.proofs.Listed.{apart-kept, apart-next, apart-none, written-kept}
+use Rattle.ring_sums.proofs.Listed.{written-next, written-none}
 use Rattle.ring_sums.proofs.WantedFiles.{done-all, done-more, done-none}
 use Rattle.ring_sums.proofs.check.check_lines.Goals as goal
 use Rattle.ring_sums.proofs.check.check_lines.Goals.{in-Bad+in_ok-warn_of_line-in-Bad}
 use Rattle.ring_sums.proofs.check.check_lines.Goals.{in-Entry+in-Ok+in-Some+in_ok-answer-in-Entry}
 
 pub loop-line-init : goal.loop-line-init
-loop-line-init g c = λ files.
+loop-line-init g c = λ files of to_come.
     let none = c.default-counts.ensures in
     let P : Finding → Type 0 =
     λ f. IsFound c.args.options.now f.entry.listed.items f.outcome f.found in
     record {
       done = [];
-      rest = c.args.wanted.items;
+      rest = files;
       whole = refl;
-      to_come = c.new-outcomes.ensures;
+      to_come = to_come;
       is = record {
         findings = [];
         entries = refl;
         read = tt;
         found = All-nil P;
         said = written-none;
+        stops = apart-none;
         counted = (none.1.0, none.1.1.1.1, none.1.1.0, none.1.1.1.0);
         bad = none.0;
       };
     }
 
+pub returns-then-has_failed : goal.returns-then-has_failed
+returns-then-has_failed g c = λ files of to_come.
+    let so = c.loop-line.invariant files of to_come in
+    record {
+      done = so.done;
+      rest = so.rest;
+      whole = so.whole;
+      to_come = so.to_come;
+      is = (
+        c.loop-line.line-index,
+        so.is,
+        λ none. absurd (true≢false (sym c.if-has_failed.true ∙ c.has_failed.ensures.1 none)),
+      );
+    }
+
 pub returns-in_default-next : goal.returns-in_default-next
-returns-in_default-next g c = λ files.
-    let so = c.loop-line.invariant files in
+returns-in_default-next g c = λ files of to_come.
+    let so = c.loop-line.invariant files of to_come in
     let given = rw c.in_default-next.is at c.in-Ok.ensures so.rest so.to_come in
     let below = entry-below c.args.lines.now c.loop-line.line-index c.line-item.result
     c.loop-line-test.true c.in-Entry.entry (sym c.line-item.is ∙ c.in-Entry.is) in
-    absurd {A = IsChecked g.S.Read.remaining g.S.Source.fails_with g.W.Write.contents
-    c.args.options.now c.args.lines.now c.args.wanted.items c.loop-line.counts c.args.console.now
-    c.loop-line.console} (omega (
+    absurd (omega (
       arith,
       done-none so.done so.rest so.whole given,
       below,
       findings-many so.is,
-      files-many (entries_of c.args.lines.now) c.args.wanted.items files,
+      files-many (entries_of c.args.lines.now) files of,
     ))
 
 pub loop-line-preserved : goal.loop-line-preserved
-loop-line-preserved g c = λ files.
-    let all = c.loop-line.invariant files in
+loop-line-preserved g c = λ files of to_come.
+    let all = c.loop-line.invariant files of to_come in
     let so = all.is in
     let lines = c.args.lines.now in
     let n = c.loop-line.line-index in
     let l = c.line-item.result in
     let here = c.loop-line-test.true in
     let few : length lines < 2 ^ 64 = omega arith in
+    let said : Finding → List ℕ =
+    λ f. said_of c.args.options.now.amount f.entry.name.items f.found in
     let is_bad : Line → Bool = λ line. is_none (entry_in line) in
     elim c.match-line.branch [
       | in-Bad+in_ok-warn_of_line-in-Bad w ↦
@@ -80,6 +98,7 @@ loop-line-preserved g c = λ files.
               read = so.read;
               found = so.found;
               said = written-kept so.said w.warn_of_line.ensures;
+              stops = apart-kept so.stops w.warn_of_line.ensures;
               counted = so.counted;
               bad = omega (
                 arith,
@@ -118,8 +137,11 @@ loop-line-preserved g c = λ files.
                 (all_zipped_more (IsOutcomeOf g.S.Read.remaining g.S.Source.fails_with) all.done
                 (map (λ (f : Finding). f.outcome) so.findings) file one.outcome so.read made);
             found = All-push P so.findings one so.found w.in_ok-answer-in-Entry.ensures.found;
-            said = written-next (λ f. said_of c.args.options.now.amount f.entry.name.items f.found)
-                so.findings one so.said w.in_ok-answer-in-Entry.ensures.said;
+            said = written-next said so.findings one so.said
+                w.in_ok-answer-in-Entry.ensures.said;
+            stops = apart-next said so.findings one so.stops
+                (c.has_failed.ensures.0 c.if-has_failed.false)
+                w.in_ok-answer-in-Entry.ensures.said;
             counted = subst (λ z. AreCounted z w.count.new.self)
                 (sym (map_push (λ (f : Finding). f.found) so.findings one))
                 (w.count.ensures.counted (map (λ (f : Finding). f.found) so.findings) room
@@ -134,11 +156,23 @@ loop-line-preserved g c = λ files.
     ]
 
 pub returns : goal.returns
-returns g c = λ files.
+returns g c = λ files of to_come.
+    let so = c.loop-line.invariant files of to_come in
     let whole = take_all c.loop-line.line-index c.args.lines.now c.loop-line-test.false in
-    let all = rw whole at c.loop-line.invariant files in
-    done-all all (omega (
+    let many : length so.done ≡ length files = omega (
       arith,
-      findings-many all.is,
-      files-many (entries_of c.args.lines.now) c.args.wanted.items files,
-    ))
+      findings-many so.is,
+      ap (λ z. length (entries_of z)) whole,
+      files-many (entries_of c.args.lines.now) files of,
+    ) in
+    record {
+      done = so.done;
+      rest = so.rest;
+      whole = so.whole;
+      to_come = so.to_come;
+      is = (
+        c.loop-line.line-index,
+        so.is,
+        λ none. (whole, done-all so.done so.rest so.whole many),
+      );
+    }

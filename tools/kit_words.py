@@ -64,10 +64,10 @@ LINES = {
         "◌-◌": "difference, or 0 if negative",
         "◌/◌ ◌%◌": "quotient, rounded down; remainder",
         "◌<◌ ◌≤◌ ◌≡◌ ◌≢◌": "statements: less; at most; equal; not equal",
-        "◌↔◌ ◌⊎◌ ⊤": "equivalent; one holds; always holds",
+        "◌↔◌ ◌⊎◌ ⊤": "equivalent; one holds; always",
         "Bool true false": "`true` or `false`, as a value",
-        "◌==◌ nat_eq": "whether equal, as a Bool",
-        "nat_lt nat_le": "whether less; at most",
+        "◌==◌ nat_eq": "equality, as a Bool",
+        "nat_lt nat_le": "less; at most, as Bools",
         "nat_cmp slice_cmp": "less, equal or greater; of lists, by element",
         "not ◌&&◌ ◌||◌": "the other Bool; both; one of them",
         "if◌then◌else◌ cond": "the first if true, else the second",
@@ -88,7 +88,7 @@ LINES = {
         "take drop": "`take n xs`: the first n, or all; `drop n xs`: the rest",
         "replicate": "`replicate n x`: n times x",
         "slice_index": "`slice_index xs i`: the number at i, from 0; past the end 0",
-        "slice_index_or get_or": "`slice_index_or xs i d`: the element at i; past the end d",
+        "slice_index_or get_or": "`slice_index_or xs i d`: likewise; past the end d",
         "slice_get": "the element at i, if there is one",
         "slice_split": "parts between the elements that pass",
         "sum_by": "the sum of what f gives",
@@ -106,17 +106,17 @@ LINES = {
         "coded_list coded_ℕ": "that a ghost value may be a list; a number",
     },
     "Results": {
-        "IfOk IfErr": "`IfOk r P`: if r is a value, P holds of it; the same of the error",
+        "IfOk IfErr": "`IfOk r P`: if r is a value, P holds of it; of the error",
         "OnOk OnErr": "if there is a value, this holds; an error",
         "IsOk IsErr IsErrOf": "r is a value; an error; this error",
         "IsOkUnless": "a value, or this error",
         "IsSome IsNone": "there is a value; none",
-        "IfSome IsSomeAnd": "if there is a value, P holds of it; there is, and it does",
+        "IfSome IsSomeAnd": "a value, if any, has P; there is one, with P",
         "MatchOption": "one statement without a value, another of it",
     },
     "Text": {
         "codes string_bytes": "bytes of a text in quotes; of a String",
-        "bytes_eq": "whether two lists of bytes are equal",
+        "bytes_eq": "equality of bytes",
         "IsBytes IsAscii": "each is below 256; below 128",
         "chars IsUtf8": "characters of bytes in UTF-8; the bytes are UTF-8",
         "encode_lower": "hex of bytes, in lower case",
@@ -125,7 +125,7 @@ LINES = {
         "encode encode_of": "base64 of bytes (RFC 4648); by some engine",
         "standard standard_no_pad url_safe_no_pad":
             "base64; without `=`; base64url (RFC 4648, 5) without",
-        "unpadded_len IsStrict": "letters of base64 of n bytes; one text a value",
+        "unpadded_len IsStrict": "base64's letters of n bytes; one text a value",
         "Json document value_view": "a JSON value; of a text, if any; of a parsed value",
         "null boolean number string array object": "JSON's values",
         "get HasUniqueKeys": "`get name v`: the member, if any; no object has a name twice",
@@ -153,9 +153,9 @@ KIT = [word for lines in LINES.values() for words in lines for word in words.spl
 
 HEAD = """# Words of definitions and contracts
 
-What the kit's words say in `crates/*/specs` and in the clauses of `crates/*/src`. {made} `◌` is \
-an argument's place: `a ◌++◌ b` is written `a ++ b`. Other words are [defined](DEFINITIONS.md) in \
-`specs/`, below their comments.
+What the kit's words say in `crates/*/specs` and the clauses of `crates/*/src`. {made} `◌` is an \
+argument's place: `a ◌++◌ b` is written `a ++ b`. Other words are [defined](DEFINITIONS.md) in \
+`specs/`.
 
 ## The language
 

@@ -152,6 +152,9 @@ def move_quarter(_, f, h, i, d):
         f"movk {general(d, f)}, #0x{i:x}" + (f", lsl #{16 * h}" if h else "")
 
 
+EXTENDED = {7: "b", 15: "h", 31: "w"}  # by the highest bit that is moved
+
+
 @reads("f10100110Nrrrrrrssssssnnnnnddddd")
 def shift_by_number(_, f, N, r, s, n, d):
     last = 63 if f else 31
@@ -161,7 +164,28 @@ def shift_by_number(_, f, N, r, s, n, d):
         return f"lsr {general(d, f)}, {general(n, f)}, #{r}"
     if s + 1 == r:
         return f"lsl {general(d, f)}, {general(n, f)}, #{last - s}"
-    return None
+    if not (f or r) and s in EXTENDED:
+        return f"uxt{EXTENDED[s]} {general(d, 0)}, {general(n, 0)}"
+    return field("u", f, r, s, n, d)
+
+
+@reads("f00100110Nrrrrrrssssssnnnnnddddd")
+def signed_shift_by_number(_, f, N, r, s, n, d):
+    last = 63 if f else 31
+    if N != f or r > last or s > last:
+        return None
+    if s == last:
+        return f"asr {general(d, f)}, {general(n, f)}, #{r}"
+    if not r and s in EXTENDED:
+        return f"sxt{EXTENDED[s]} {general(d, f)}, {general(n, 0)}"
+    return field("s", f, r, s, n, d)
+
+
+def field(kind, f, r, s, n, d):
+    """A move of bits s to r to the lowest, or of the s + 1 lowest to above the r lowest."""
+    if s >= r:
+        return f"{kind}bfx {general(d, f)}, {general(n, f)}, #{r}, #{s - r + 1}"
+    return f"{kind}bfiz {general(d, f)}, {general(n, f)}, #{(64 if f else 32) - r}, #{s + 1}"
 
 
 @reads("f00100111N0mmmmmssssssnnnnnddddd")
@@ -176,11 +200,6 @@ def rotate(_, f, N, m, s, n, d):
 @reads("f0011010110mmmmm00100onnnnnddddd")
 def shift_by_register(_, f, m, o, n, d):
     return f"{('lsl', 'lsr')[o]} {general(d, f)}, {general(n, f)}, {general(m, f)}"
-
-
-@reads("1001001101000000000111nnnnnddddd")
-def extended_byte(_, n, d):
-    return f"sxtb {general(d, 1)}, {general(n, 0)}"
 
 
 @reads("fos11010000mmmmm000000nnnnnddddd")
@@ -201,6 +220,42 @@ def select(_, f, o, m, c, p, n, d):
         opposite = CONDITIONS[c ^ 1]
         return f"cset {target}, {opposite}" if n == 31 else f"cinc {target}, {first}, {opposite}"
     return f"{name} {target}, {first}, {second}, {CONDITIONS[c]}"
+
+
+@reads("f01100110Nrrrrrrssssssnnnnnddddd")
+def inserted_field(_, f, N, r, s, n, d):
+    last = 63 if f else 31
+    if N != f or r > last or s > last or n == 31:
+        return None
+    if s >= r:
+        return f"bfxil {general(d, f)}, {general(n, f)}, #{r}, #{s - r + 1}"
+    return f"bfi {general(d, f)}, {general(n, f)}, #{last + 1 - r}, #{s + 1}"
+
+
+@reads("fos01011001mmmmmxxxiiinnnnnddddd")
+def sum_with_extended(_, f, o, s, m, x, i, n, d):
+    if x not in (0, 1, 2, 4, 5, 6) or i > 4:
+        return None
+    first, target = general(n, f, "sp"), general(d, f, "zero" if s else "sp")
+    how = f"{general(m, 0)}, {'us'[x > 3]}xt{'bhw'[x & 3]}" + (f" #{i}" if i else "")
+    if s and d == 31:
+        return f"{('cmn', 'cmp')[o]} {first}, {how}"
+    return f"{('add', 'adds', 'sub', 'subs')[2 * o + s]} {target}, {first}, {how}"
+
+
+@reads("f101101011000000000b00nnnnnddddd")
+def bits_of_word(_, f, b, n, d):
+    return f"{('rbit', 'clz')[b]} {general(d, f)}, {general(n, f)}"
+
+
+@reads("f0011010110mmmmm000010nnnnnddddd")
+def quotient(_, f, m, n, d):
+    return f"udiv {general(d, f)}, {general(n, f)}, {general(m, f)}"
+
+
+@reads("10011011101mmmmm011111nnnnnddddd")
+def long_product(_, m, n, d):
+    return f"umull {general(d, 1)}, {general(n, 0)}, {general(m, 0)}"
 
 
 @reads("0101101011000000000010nnnnnddddd")
@@ -295,9 +350,14 @@ def single(z, V, o, unscaled=False):
         letter, size = "q", 16
     else:
         letter, size = SINGLE.get((z, V), (None, 0))
-        if not letter or o > 1:
+        if not letter or o > 1 and V:
             return None
     name = (("str", "ldr"), ("stur", "ldur"))[unscaled][o & 1]
+    if o > 1 and not V:  # with the sign above
+        letter = "xw"[o & 1]
+        if z == 3 or z == 2 and letter == "w":
+            return None
+        return letter, size, ("ldrs", "ldurs")[unscaled] + "bhw"[z]
     return letter, size, name + {1: "b", 2: "h"}.get(size, "")
 
 
@@ -383,9 +443,11 @@ def three_vectors(_, Q, u, z, m, o, n, d):
         name, width = ("add", "sub")[u], 8 << z
         if u or z == 1:
             return None
+    elif o == 0b100011 and u or o == 0b101111 and not u:
+        name, width = ("addp", "cmeq")[u], 8 << z
     elif o == 0b000111:
         name, width = ("and bic orr orn", "eor bsl bit bif")[u].split()[z], 8
-        if name in ("orn", "bit", "bif"):
+        if name == "bit":
             return None
     else:
         return None
@@ -393,6 +455,27 @@ def three_vectors(_, Q, u, z, m, o, n, d):
     if name == "orr" and m == n:
         return f"mov {vector(d, 8, whole)}, {vector(n, 8, whole)}"
     return f"{name} {', '.join(vector(it, width, whole) for it in (d, n, m))}"
+
+
+@reads("0110111000100000010110nnnnnddddd")
+def inverted_vector(_, n, d):
+    return f"mvn {vector(d, 8)}, {vector(n, 8)}"
+
+
+@reads("01001110zz100000100110nnnnnddddd")
+def compared_with_zero(_, z, n, d):
+    return f"cmeq {vector(d, 8 << z)}, {vector(n, 8 << z)}, #0"
+
+
+@reads("01u01110zz11000oooo010nnnnnddddd")
+def over_parts(_, u, z, o, n, d):
+    name = {(1, 5): "umaxv"}.get((u, o))
+    return f"{name} {'bhs'[z]}{d}, {vector(n, 8 << z)}" if name and z < 3 else None
+
+
+@reads("01001110zz110001101110nnnnnddddd")
+def sum_of_parts(_, z, n, d):
+    return f"addv {'bhs'[z]}{d}, {vector(n, 8 << z)}" if z < 3 else None
 
 
 @reads("0010111100100000101001nnnnnddddd")

@@ -6,6 +6,7 @@ import os
 from collections import namedtuple
 from functools import cache, partial
 
+import apart
 import arm
 import fips180_4
 import identify
@@ -473,28 +474,24 @@ def cases(row, has_instructions):
         yield f"PBKDF2 by {function.name} by instructions of {front} words", (*row.arguments, True)
 
 
-# What is shown of the library for Windows.
-ON_WINDOWS = (run_ahead, run_blocks, output_after, blocks_in_lanes)
-
-
 def of(library):
     """All kernels of a library. One that has no function is refused."""
     cpu = architecture(library)
     has_instructions = any("by_instruction" in it.name for it in library.symbols)
 
+    def check_at(residue, row, arguments):
+        cpu.residue = residue
+        return row.check(cpu, library, row.symbol, *arguments)
+
     def check_of(row, what, arguments):
         if row.symbol is None:
             raise Refused(f"there is no function for {what}")
-        total = 0
-        for residue in getattr(cpu, "RESIDUES", [None]):
-            cpu.residue = residue
-            steps, used = row.check(cpu, library, row.symbol, *arguments)
-            total += steps
-        return total, used
+        *others, last = getattr(cpu, "RESIDUES", [None])
+        before = [apart.run(partial(check_at, it, row, arguments)) for it in others]
+        steps, used = check_at(last, row, arguments)
+        return steps + sum(it for it, _ in before), used
 
     for row in rows(library):
-        if library.system == "Windows" and row.check not in ON_WINDOWS:
-            continue
         for what, arguments in cases(row, has_instructions):
             where = row.symbol and (f"({identify.short_name(row.symbol.name)} at "
                                     f"{row.symbol.start:x})")

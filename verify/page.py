@@ -22,8 +22,8 @@ PAGE = ROOT / "docs/VERIFY.md"
 BEGIN, END = "<!-- {}: made by verify/page.py -->\n", "<!-- /{} -->"
 # What a verdict on a kernel rests on, and what finds the kernels. A verdict on a whole call rests
 # on these and on further ones.
-TRUSTED = ["fips180_4.py", "kernels.py", "loops.py", "machine.py", "terms.py", "elf.py",
-           "identify.py", "check"]
+TRUSTED = ["fips180_4.py", "kernels.py", "loops.py", "machine.py", "terms.py", "apart.py",
+           "elf.py", "identify.py", "check"]
 OF_X86 = ["x86.py", "operands_x86.py", "vectors_x86.py", "sha_x86.py", "decode_x86.py"]
 OF_ARM = ["arm.py", "decode_arm.py"]
 OF_CALLS = ["standards.py", "lengths.py", "summaries.py", "calls.py", "functions.py",

@@ -41,6 +41,19 @@ FURTHER = """
     ushl v1.2d, v2.2d, v3.2d; uxtl v1.2d, v2.2s; rev64 v1.8b, v2.8b; eor v1.8b, v2.8b, v3.8b
     orr v1.8b, v2.8b, v3.8b; bic v1.8b, v2.8b, v3.8b; bsl v1.8b, v2.8b, v3.8b; tst x1, #0xf0
     ld1r {v1.2d}, [x2]; sha1h s1, s2; movi v1.2d, #0xff00ff00ff00ff00; movi v1.4s, #0x1, lsl #8
+    uxtb w1, w2; uxth w1, w2; sxth w1, w2; sxth x1, w2; sxtw x1, w2; asr x1, x2, #5; asr w1, w2, #3
+    ubfx w1, w2, #3, #7; ubfiz x1, x2, #3, #7; sbfx x1, x2, #3, #7; sbfx w1, w2, #9, #20
+    sbfiz w1, w2, #3, #7; sbfiz x1, x2, #40, #9; bfi w1, w2, #3, #7; bfi x1, x2, #40, #9
+    bfxil w1, w2, #3, #7; bfxil x1, x2, #40, #9; eon x1, x2, x3; eon w1, w2, w3, asr #4
+    orn w1, w2, w3, ror #3; bics x1, x2, x3, lsl #2; ands w1, w2, w3, lsr #3; ands x1, x2, #0xff0
+    mvn w1, w2, lsl #3; mvn x1, x2; neg w1, w2; neg x1, x2, asr #3; cmn x1, x2; cmn w1, #0x4
+    cmp w1, w2, uxtb; cmp x1, w2, sxtw; add x1, x2, w3, sxth #2; subs w1, w2, w3, uxth #1
+    clz w1, w2; rbit w1, w2; udiv x1, x2, x3; udiv w1, w2, w3; umull x1, w2, w3
+    ldrsb x1, [x2]; ldrsb w1, [x2, x3]; ldrsh w1, [x2, #6]; ldrsh x1, [x2]; ldrsw x1, [x2, #8]
+    ldursb w1, [x2, #-3]; ldursh x1, [x2, #-3]; ldursw x1, [x2, #-5]; ldrsw x1, [x2, w3, uxtw #2]
+    cmeq v1.4s, v2.4s, v3.4s; cmeq v1.2d, v2.2d, #0; cmeq v1.8h, v2.8h, #0; addp v1.8h, v2.8h, v3.8h
+    addp v1.2d, v2.2d, v3.2d; addv b1, v2.16b; addv s1, v2.4s; umaxv h1, v2.8h; umaxv s1, v2.4s
+    mvn v1.16b, v2.16b; orn v1.16b, v2.16b, v3.16b; bif v1.16b, v2.16b, v3.16b
 """
 
 

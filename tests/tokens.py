@@ -388,6 +388,30 @@ def stripe_headers():
     return differing(wanted)
 
 
+def empty_secrets_are_refused():
+    """An empty secret is refused, though the password or the header is right under it."""
+    wanted, body = [], b'{"id":1}'
+    for name in OTP_HASHES:
+        for places in (6, 7, 8):
+            made = hotp(name, b"", 2, places)
+            text = f"{made:0{places}}"
+            if found(name, b"", 0, 9, places, text.encode()) != "2":
+                return [(text, "the reading finds another counter")]
+            lines = [f"hotp {name} - 2 {places}", f"hotp find {name} - 0 9 {places} {text}"]
+            lines += [f"totp {name} - 60 30 {places}"]
+            lines += [f"totp find {name} - 60 30 1 1 {places} {text}"]
+            wanted += [(line, REFUSED) for line in lines]
+    header = f"t={NOW},v1={hex_tag(b'', f'{NOW}.'.encode() + body)}"
+    if not stripe_verifies(b"", body, header, NOW, 300):
+        return [(header, "the reading refuses the header")]
+    wanted.append((f"github - {digits(body)} sha256={hex_tag(b'', body)}", REFUSED))
+    wanted.append((f"stripe - {digits(body)} {header} {NOW} 300", REFUSED))
+    # A secret of one byte is none of these.
+    wanted.append(("hotp SHA1 01 2 6", str(hotp("SHA1", bytes([1]), 2, 6))))
+    wanted.append((f"github 01 {digits(body)} sha256={hex_tag(bytes([1]), body)}", "ok"))
+    return differing(wanted)
+
+
 # --- peers ---
 
 # What PyJWT 2.6.0 accepts and this crate refuses, on the lines of `with_pyjwt`.
@@ -526,7 +550,8 @@ def requests_are_refused():
 
 ALONE = (
     are_signed, have_headers, are_broken, bad_payloads_are_refused, are_current,
-    counters_are_found, steps_are_found, github_headers, stripe_headers, are_bad_lines, are_large,
+    counters_are_found, steps_are_found, github_headers, stripe_headers, empty_secrets_are_refused,
+    are_bad_lines, are_large,
 )
 
 

@@ -448,8 +448,9 @@ yz_status yz_jws_verify(uint32_t algorithm, const uint8_t *key, size_t key_len,
  * have YZ_SHA1, whose faults don't reach HMAC; the RFC names YZ_SHA256 and YZ_SHA512 too.
  *
  * A password is `digits` decimal digits in ASCII, leading zeros among them, and no zero byte is
- * behind them. It has 6 to 8, or the call answers YZ_WRONG_LENGTH. A key has any length that it has
- * for yz_hmac_sign; RFC 4226 (section 4) asks for 16 bytes and more. */
+ * behind them. It has 6 to 8, or the call answers YZ_WRONG_LENGTH. An empty key, as of a variable
+ * that nobody set, is answered by YZ_UNSPECIFIED; any other has a length that it has for
+ * yz_hmac_sign. RFC 4226 (section 4) asks for 16 bytes and more. */
 #define YZ_OTP_MIN_DIGITS 6
 #define YZ_OTP_MAX_DIGITS 8
 

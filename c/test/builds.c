@@ -374,7 +374,7 @@ int main(void) {
     for (int turn = 0; turn < TREES; turn++) tree(message, 2 + below(MOST_LEAVES - 1));
     for (int turn = 0; turn < TOKENS; turn++) {
         token(YZ_SHA256 + (uint32_t)below(3), message, below(MOST_PAYLOAD));
-        password(1 + (uint32_t)below(YZ_SHA512), message, below(MOST_KEY),
+        password(1 + (uint32_t)below(YZ_SHA512), message, 1 + below(MOST_KEY),
                  (uint64_t)rand() << below(28));
     }
     for (int turn = 0; turn < GARBAGE; turn++) garbage(message);

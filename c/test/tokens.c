@@ -361,8 +361,27 @@ static void refused_passwords(void) {
     refused_calls(YZ_SHA1, past, 30, 6, YZ_UNSPECIFIED, YZ_UNSPECIFIED);
     refused_calls(YZ_SHA1, past, 0, 6, YZ_UNSPECIFIED, YZ_UNSPECIFIED);
     refused_calls(YZ_SHA1, 20, 0, 6, YZ_OK, YZ_UNSPECIFIED);
+}
+
+/* Under an empty key nothing is written, though these are its passwords of the counter 1 (from
+ * Python's hmac). A key of one byte is taken. */
+static void empty_keys(void) {
+    static const char *const RIGHT[] = {"812658", "007993", "497587", "772963"};
     char got[6];
-    IS(yz_hotp(YZ_SHA1, NULL, 0, 0, got, sizeof got), YZ_OK);
+    uint64_t found = 9;
+    memset(got, UNWRITTEN, sizeof got);
+    for (uint32_t i = 0; i < 4; i++)
+        for (int is_null = 0; is_null < 2; is_null++) {
+            const uint8_t *empty = is_null ? NULL : text(SECRET);
+            IS(yz_hotp(YZ_SHA1 + i, empty, 0, 1, got, 6), YZ_UNSPECIFIED);
+            IS(yz_totp(YZ_SHA1 + i, empty, 0, 59, 30, got, 6), YZ_UNSPECIFIED);
+            IS(yz_hotp_find(YZ_SHA1 + i, empty, 0, 0, 3, 6, RIGHT[i], 6, &found), YZ_UNSPECIFIED);
+            IS(yz_totp_find(YZ_SHA1 + i, empty, 0, 59, 30, 1, 1, 6, RIGHT[i], 6, &found),
+               YZ_UNSPECIFIED);
+        }
+    IS_UNWRITTEN(got, sizeof got);
+    IS(found, 9);
+    IS(yz_hotp(YZ_SHA1, text(SECRET), 1, 1, got, 6), YZ_OK);
 }
 
 /* Any bytes have an answer. */
@@ -382,6 +401,7 @@ static void garbage(void) {
 int main(void) {
     for (size_t i = 0; i < sizeof key; i++) key[i] = (uint8_t)i;
     known_tokens(), unsigned_payloads(), all_lengths();
-    known_passwords(), windows_of_time(), last_counters(), refused_passwords(), garbage();
+    known_passwords(), windows_of_time(), last_counters(), refused_passwords(), empty_keys();
+    garbage();
     return end_of_checks();
 }

@@ -1,7 +1,7 @@
 -- SPDX-License-Identifier: ISC
 -- One-time passwords: why a call is refused, what calls write and find. r is the status.
 use Rattle.std.specs.Prelude.{◌≡◌, ◌≢◌, ◌==◌, ◌<◌, ◌^◌, ℕ, ℤ, Bool, false, ◌&&◌, List, Option}
-use Rattle.std.specs.Prelude.{Some, None, if◌then◌else◌, is_some, length, not}
+use Rattle.std.specs.Prelude.{Some, None, if◌then◌else◌, is_some, length, nat_le, not}
 use Rattle.ring.specs.Hmac.{hmac_digest}
 use Rattle.ring.specs.Limits.{fits}
 use Rattle.ring.specs.declared.hmac.key.Algorithm.{Algorithm}
@@ -10,12 +10,16 @@ use Rattle.ring_tokens.specs.declared.otp.Digits.{Digits}
 use Rattle.ring_c.specs.Number.{digits_named, hmac_named}
 use Rattle.ring_c.specs.Status.{Causes, YZ_OK, YZ_UNKNOWN_ALGORITHM, no_cause, status_of}
 
+-- whether a key may have n bytes: one and more, up to the limit of digests
+abbrev pub is_secret_len : Algorithm → ℕ → Bool
+is_secret_len a n = nat_le 1 n && fits (hmac_digest a) n
+
 -- the causes for so many digits and a key of so many bytes, where all else is right or not
 abbrev pub otp_causes : (digits key_len : ℕ) → (right : Bool) → Algorithm → Causes
 otp_causes digits key_len right a =
     record no_cause {
       wrong_length = not (is_some (digits_named digits));
-      unspecified = not (right && fits (hmac_digest a) key_len);
+      unspecified = not (right && is_secret_len a key_len);
     }
 
 -- the counter of a time, where a step has a second or more (RFC 6238, section 4.2)

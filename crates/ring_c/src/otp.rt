@@ -2,23 +2,23 @@
 //! One-time passwords: HOTP (RFC 4226) and TOTP (RFC 6238).
 
 ghost use Rattle.std.specs.Prelude.{◌≡◌, ◌==◌, ◌+◌, List, Some, length, not, true, ℕ};
-ghost use Rattle.ring.specs.Hmac.{KeyStandsFor, key_algorithm};
 ghost use Rattle.ring_tokens.specs.Otp.{digits_of, first_step, hotp_text, past_step};
+ghost use Rattle.ring_tokens.specs.Secret.{IsSecret, secret_algorithm};
 ghost use Rattle.ring_c.specs.Otp.{FindsPassword, WritesPassword, counter_at};
 
 use crate::number::{digits_of_number, hmac_of_number};
 use crate::status::{OK, UNKNOWN_ALGORITHM, UNSPECIFIED, WRONG_LENGTH};
-use ring::hmac::Key;
+use ring_tokens::SharedSecret;
 use ring_tokens::otp::{Digits, eight_digits, find_hotp, find_totp, hotp};
 use std::num::NonZeroU32;
 
 // Writes the password of a counter to `text`.
-fn write_password(key: &Key, counter: u64, digits: Digits, text: &mut [u8])
+fn write_password(secret: &SharedSecret, counter: u64, digits: Digits, text: &mut [u8])
     requires { length text.old ≡ digits_of digits }
-    ensures { (k : List ℕ) → KeyStandsFor key.now k
-        → text.new ≡ hotp_text (key_algorithm key.now) k counter digits }
+    ensures { (k : List ℕ) → IsSecret secret.now k
+        → text.new ≡ hotp_text (secret_algorithm secret.now) k counter digits }
 {
-    let written = eight_digits(hotp(key, counter, digits));
+    let written = eight_digits(hotp(secret, counter, digits));
     text.copy_from_slice(&written[8 - text.len()..]);
 }
 
@@ -35,10 +35,10 @@ fn write(algorithm: u32, key: &[u8], counter: Option<u64>, text: &mut [u8]) -> i
     let Some(counter) = counter else {
         return UNSPECIFIED;
     };
-    let Ok(shared_key) = Key::new(algorithm, key) else {
+    let Ok(secret) = SharedSecret::new(algorithm, key) else {
         return UNSPECIFIED;
     };
-    write_password(&shared_key, counter, digits, text);
+    write_password(&secret, counter, digits, text);
     OK
 }
 
@@ -47,8 +47,8 @@ fn write(algorithm: u32, key: &[u8], counter: Option<u64>, text: &mut [u8]) -> i
 /// zeros (RFC 4226, section 5.3).
 ///
 /// Refused as `UNKNOWN_ALGORITHM` exactly if the number names none; else as `WRONG_LENGTH` exactly
-/// if `text` has not 6, 7 or 8 bytes; else as `UNSPECIFIED` exactly if the key is too long. `text`
-/// is then unchanged.
+/// if `text` has not 6, 7 or 8 bytes; else as `UNSPECIFIED` exactly if the key is empty or too
+/// long. `text` is then unchanged.
 #[unsafe(no_mangle)]
 pub extern "C" fn yz_hotp(algorithm: u32, key: &[u8], counter: u64, text: &mut [u8]) -> i32
     ensures { WritesPassword algorithm key.now (Some counter) text.old text.new result }
@@ -60,8 +60,8 @@ pub extern "C" fn yz_hotp(algorithm: u32, key: &[u8], counter: u64, text: &mut [
 /// `yz_hotp` does that of a counter. A step has `step` seconds (RFC 6238, section 4.2).
 ///
 /// Refused as `UNKNOWN_ALGORITHM` exactly if the number names none; else as `WRONG_LENGTH` exactly
-/// if `text` has not 6, 7 or 8 bytes; else as `UNSPECIFIED` exactly if `step` is 0 or the key is
-/// too long. `text` is then unchanged.
+/// if `text` has not 6, 7 or 8 bytes; else as `UNSPECIFIED` exactly if `step` is 0, or the key is
+/// empty or too long. `text` is then unchanged.
 #[unsafe(no_mangle)]
 pub extern "C" fn yz_totp(algorithm: u32, key: &[u8], time: u64, step: u32, text: &mut [u8]) -> i32
     ensures { WritesPassword algorithm key.now (counter_at time step) text.old text.new result }
@@ -80,7 +80,7 @@ pub extern "C" fn yz_totp(algorithm: u32, key: &[u8], time: u64, step: u32, text
 ///
 /// Refused as `UNKNOWN_ALGORITHM` exactly if the number names none; else as `WRONG_LENGTH` exactly
 /// if `digits` is not 6, 7 or 8; else as `UNSPECIFIED` exactly if the text is the password of no
-/// such counter, or the key is too long. `counter` is then unchanged.
+/// such counter, or the key is empty or too long. `counter` is then unchanged.
 #[unsafe(no_mangle)]
 pub extern "C" fn yz_hotp_find(
     algorithm: u32,
@@ -100,10 +100,10 @@ pub extern "C" fn yz_hotp_find(
     let Some(digits) = digits_of_number(digits) else {
         return WRONG_LENGTH;
     };
-    let Ok(shared_key) = Key::new(algorithm, key) else {
+    let Ok(secret) = SharedSecret::new(algorithm, key) else {
         return UNSPECIFIED;
     };
-    let Some(found) = find_hotp(&shared_key, first, count, digits, text) else {
+    let Some(found) = find_hotp(&secret, first, count, digits, text) else {
         return UNSPECIFIED;
     };
     *counter = found;
@@ -116,7 +116,7 @@ pub extern "C" fn yz_hotp_find(
 ///
 /// Refused as `UNKNOWN_ALGORITHM` exactly if the number names none; else as `WRONG_LENGTH` exactly
 /// if `digits` is not 6, 7 or 8; else as `UNSPECIFIED` exactly if `step` is 0, the text is the
-/// password of no such step, or the key is too long. `counter` is then unchanged.
+/// password of no such step, or the key is empty or too long. `counter` is then unchanged.
 #[unsafe(no_mangle)]
 pub extern "C" fn yz_totp_find(
     algorithm: u32,
@@ -141,10 +141,10 @@ pub extern "C" fn yz_totp_find(
     let Some(step) = NonZeroU32::new(step) else {
         return UNSPECIFIED;
     };
-    let Ok(shared_key) = Key::new(algorithm, key) else {
+    let Ok(secret) = SharedSecret::new(algorithm, key) else {
         return UNSPECIFIED;
     };
-    let Some(found) = find_totp(&shared_key, time, step, back, ahead, digits, text) else {
+    let Some(found) = find_totp(&secret, time, step, back, ahead, digits, text) else {
         return UNSPECIFIED;
     };
     *counter = found;

@@ -2,16 +2,15 @@
 //! Callers of signed tokens and one-time passwords.
 
 ghost use Rattle.std.specs.Prelude.{◌≡◌, ℕ, ◌<◌, List, IfOk, IsTrue};
-ghost use Rattle.ring.specs.Prelude.{KeyStandsFor, key_algorithm};
 ghost use Rattle.ring_tokens.specs.Claims.{IsCurrent};
 ghost use Rattle.ring_tokens.specs.Jws.{IsJws, IsKey, alg_of};
 ghost use Rattle.ring_tokens.specs.Otp.{hotp_text};
+ghost use Rattle.ring_tokens.specs.Secret.{IsSecret, secret_algorithm};
 
-use ring::hmac;
 use ring_tokens::claims::is_current;
 use ring_tokens::jws::verify;
 use ring_tokens::otp::{Digits, find_totp};
-use ring_tokens::{Key, TokenError};
+use ring_tokens::{Key, SharedSecret, TokenError};
 use std::alloc::Allocator;
 use std::num::NonZeroU32;
 
@@ -37,13 +36,19 @@ pub fn claims_of<A: Allocator + Copy>(
 
 /// Whether `typed` is a one-time password of six digits of the time's step, or of one beside it,
 /// that was not used before. `last` is the last step whose password was.
-pub fn log_in(key: &hmac::Key, time: u64, step: NonZeroU32, typed: &[u8], last: &mut u64) -> bool
-    ensures accepted { (k : List ℕ) → KeyStandsFor key.now k → IsTrue result
-        → (typed.now ≡ hotp_text (key_algorithm key.now) k last.new Digits.Six)
+pub fn log_in(
+    secret: &SharedSecret,
+    time: u64,
+    step: NonZeroU32,
+    typed: &[u8],
+    last: &mut u64,
+) -> bool
+    ensures accepted { (k : List ℕ) → IsSecret secret.now k → IsTrue result
+        → (typed.now ≡ hotp_text (secret_algorithm secret.now) k last.new Digits.Six)
         × (last.old < last.new) }
     ensures unchanged { ¬ (IsTrue result) → last.new ≡ last.old }
 {
-    match find_totp(key, time, step, 1, 1, Digits::Six, typed) {
+    match find_totp(secret, time, step, 1, 1, Digits::Six, typed) {
         Some(found) if found > *last => {
             *last = found;
             true

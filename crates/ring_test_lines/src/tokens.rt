@@ -6,12 +6,12 @@ use crate::words::{
     alg_in, bytes_in, count_in, digits_in, digits_of, hmac_in, line_of, number_in, short_in,
     text_in,
 };
-use ring::hmac::{self, HMAC_SHA256};
+use ring::hmac::HMAC_SHA256;
 use ring_tokens::claims::is_current;
 use ring_tokens::jws::{sign, sign_in_place, token_len, verify, verify_in_place};
 use ring_tokens::otp::{find_hotp, find_totp, hotp, totp};
 use ring_tokens::webhook::{verify_github, verify_stripe};
-use ring_tokens::{Key, TokenError};
+use ring_tokens::{Key, SharedSecret, TokenError};
 use std::alloc::Global;
 
 /// The answer to a line on tokens by its words.
@@ -46,9 +46,9 @@ fn key_of(alloc: Global, alg: &str, key: &str) -> Result<Key, Fault> {
     Ok(Key::new(alg_in(alg)?, &bytes_in(alloc, key)?)?)
 }
 
-/// A key for tags.
-fn hmac_key_of(alloc: Global, hash: &str, key: &str) -> Result<hmac::Key, Fault> {
-    Ok(hmac::Key::new(hmac_in(hash)?, &bytes_in(alloc, key)?)?)
+/// A secret for one-time passwords.
+fn secret_of(alloc: Global, hash: &str, key: &str) -> Result<SharedSecret, Fault> {
+    Ok(SharedSecret::new(hmac_in(hash)?, &bytes_in(alloc, key)?)?)
 }
 
 /// The payload of a token.
@@ -95,16 +95,16 @@ fn current(alloc: Global, payload: &str, now: &str, leeway: &str) -> Result<Stri
 
 /// A one-time password.
 fn made(alloc: Global, words: [&str; 4]) -> Result<String, Fault> {
-    let key = hmac_key_of(alloc, words[0], words[1])?;
-    let password = hotp(&key, number_in(words[2])?, digits_in(words[3])?);
+    let secret = secret_of(alloc, words[0], words[1])?;
+    let password = hotp(&secret, number_in(words[2])?, digits_in(words[3])?);
     Ok(format!(in alloc; "{password}")?)
 }
 
 /// A one-time password of a time.
 fn made_at(alloc: Global, words: [&str; 5]) -> Result<String, Fault> {
-    let key = hmac_key_of(alloc, words[0], words[1])?;
+    let secret = secret_of(alloc, words[0], words[1])?;
     let step = count_in(words[3])?;
-    let password = totp(&key, number_in(words[2])?, step, digits_in(words[4])?);
+    let password = totp(&secret, number_in(words[2])?, step, digits_in(words[4])?);
     Ok(format!(in alloc; "{password}")?)
 }
 
@@ -121,12 +121,15 @@ fn found(alloc: Global, words: &[&str]) -> Result<String, Fault> {
     let [hash, key, first, count, digits, text] = words else {
         return Err(Fault::BadLine);
     };
-    let key = hmac_key_of(alloc, hash, key)?;
+    let secret = secret_of(alloc, hash, key)?;
     let first = number_in(first)?;
     let count = short_in(count)?;
     let digits = digits_in(digits)?;
     let text = text_in(alloc, text)?;
-    place_of(alloc, find_hotp(&key, first, count as u64, digits, &text))
+    place_of(
+        alloc,
+        find_hotp(&secret, first, count as u64, digits, &text),
+    )
 }
 
 /// The step of a one-time password.
@@ -134,7 +137,7 @@ fn found_at(alloc: Global, words: &[&str]) -> Result<String, Fault> {
     let [hash, key, time, step, back, ahead, digits, text] = words else {
         return Err(Fault::BadLine);
     };
-    let key = hmac_key_of(alloc, hash, key)?;
+    let secret = secret_of(alloc, hash, key)?;
     let time = number_in(time)?;
     let step = count_in(step)?;
     let back = short_in(back)?;
@@ -143,22 +146,28 @@ fn found_at(alloc: Global, words: &[&str]) -> Result<String, Fault> {
     let text = text_in(alloc, text)?;
     place_of(
         alloc,
-        find_totp(&key, time, step, back, ahead, digits, &text),
+        find_totp(&secret, time, step, back, ahead, digits, &text),
     )
 }
 
 /// Whether a header is GitHub's.
 fn github(alloc: Global, key: &str, body: &str, header: &str) -> Result<String, Fault> {
-    let key = hmac::Key::new(HMAC_SHA256, &bytes_in(alloc, key)?)?;
-    verify_github(&key, &bytes_in(alloc, body)?, &text_in(alloc, header)?)?;
+    let secret = SharedSecret::new(HMAC_SHA256, &bytes_in(alloc, key)?)?;
+    verify_github(&secret, &bytes_in(alloc, body)?, &text_in(alloc, header)?)?;
     Ok(String::from_str(alloc, "ok")?)
 }
 
 /// Whether a header is Stripe's.
 fn stripe(alloc: Global, words: [&str; 3], now: &str, tolerance: &str) -> Result<String, Fault> {
-    let key = hmac::Key::new(HMAC_SHA256, &bytes_in(alloc, words[0])?)?;
+    let secret = SharedSecret::new(HMAC_SHA256, &bytes_in(alloc, words[0])?)?;
     let body = bytes_in(alloc, words[1])?;
     let header = text_in(alloc, words[2])?;
-    verify_stripe(&key, &body, &header, number_in(now)?, number_in(tolerance)?)?;
+    verify_stripe(
+        &secret,
+        &body,
+        &header,
+        number_in(now)?,
+        number_in(tolerance)?,
+    )?;
     Ok(String::from_str(alloc, "ok")?)
 }

@@ -4,18 +4,18 @@
 use Rattle.std.specs.Prelude.{◌≡◌, ◌↔◌, ◌⊎◌, ◌<◌, ◌≤◌, ℕ, List, ◌++◌, drop, length, take}
 use Rattle.std.specs.Prelude.{Option, IfSome, IsNone, Result, IfErr, IfOk, IsErrOf, OnErr, OnOk}
 use Rattle.std.specs.declared.vec.Vec.{Vec}
-use Rattle.ring.specs.Prelude.{KeyStandsFor, key_algorithm}
-use Rattle.ring.specs.declared.hmac.key.Key as hmac
 use Rattle.ring_tokens.specs.Header.{usual_header}
 use Rattle.ring_tokens.specs.InPlace.{IsUsual, IsUsualJws}
 use Rattle.ring_tokens.specs.Jws.{CanSign, IsJws, IsKey, IsTokenUnder, alg_of, usual_token}
 use Rattle.ring_tokens.specs.Jws.{usual_token_len}
 use Rattle.ring_tokens.specs.Otp.{IsFound, IsNotFound}
 use Rattle.ring_tokens.specs.Parts.{IsUnsigned}
+use Rattle.ring_tokens.specs.Secret.{IsSecret, secret_algorithm}
 use Rattle.ring_tokens.specs.declared.error.TokenError.{TokenError}
 use Rattle.ring_tokens.specs.declared.error.TokenError.TheVariants as token_error
 use Rattle.ring_tokens.specs.declared.key.Key.{Key}
 use Rattle.ring_tokens.specs.declared.otp.Digits.{Digits}
+use Rattle.ring_tokens.specs.declared.secret.SharedSecret.{SharedSecret}
 
 -- the payload of the key's token is returned
 pub record VerifiesToken {A : Type 0} (key : Key) (token : List ℕ)
@@ -67,9 +67,9 @@ pub record SignsToken {A : Type 0} (key : Key) (payload : List ℕ)
   pub refused : IfErr r (λ e. (e ≡ token_error.TooLong) ⊎ (e ≡ token_error.Memory))
 
 -- the first counter from `first` on and below `past` whose password the text is, is returned
-pub record FindsCounter (key : hmac.Key) (first past : ℕ) (digits : Digits) (text : List ℕ)
+pub record FindsCounter (secret : SharedSecret) (first past : ℕ) (digits : Digits) (text : List ℕ)
     (r : Option ℕ) : Type 0 where
-  pub ok : (k : List ℕ) → KeyStandsFor key k
-      → IfSome r (λ found. IsFound (key_algorithm key) k first past digits text found)
-  pub refused : (k : List ℕ) → KeyStandsFor key k → IsNone r
-      → IsNotFound (key_algorithm key) k first past digits text
+  pub ok : (k : List ℕ) → IsSecret secret k
+      → IfSome r (λ found. IsFound (secret_algorithm secret) k first past digits text found)
+  pub refused : (k : List ℕ) → IsSecret secret k → IsNone r
+      → IsNotFound (secret_algorithm secret) k first past digits text

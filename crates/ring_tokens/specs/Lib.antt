@@ -8,6 +8,7 @@ pub mod Put
 pub mod Cost
 pub mod Error
 pub mod Claims
+pub mod Secret
 pub mod Otp
 pub mod Webhook
 pub mod Gives

@@ -8,8 +8,8 @@
 //!
 //! - [`jws`]: tokens signed and verified under a [`Key`], each key for one [`Alg`].
 //! - [`claims`]: whether a payload is current.
-//! - [`otp`]: HOTP and TOTP.
-//! - [`webhook`]: headers that sign a body.
+//! - [`otp`]: HOTP and TOTP, each under a [`SharedSecret`].
+//! - [`webhook`]: headers that sign a body, under a [`SharedSecret`].
 //! - [`laws`]: the known faults of readers of tokens, each ruled out.
 //!
 //! A call whose name ends in `_counted` does what the call without that ending does, and counts its
@@ -29,9 +29,11 @@ mod number;
 pub mod otp;
 mod parts;
 mod put;
+mod secret;
 mod signature;
 pub mod webhook;
 
 pub use crate::alg::Alg;
 pub use crate::error::TokenError;
 pub use crate::key::Key;
+pub use crate::secret::SharedSecret;

@@ -1,22 +1,26 @@
 // SPDX-License-Identifier: ISC
 //! The headers with which GitHub and Stripe sign what they send to a webhook.
+//!
+//! An empty secret is refused where a [`SharedSecret`] is made, so no header verifies under it.
 
 ghost use Rattle.std.specs.Prelude.{◌≡◌, ◌≢◌, ◌↔◌, ℕ, ◌<◌, ◌≤◌, ◌+◌, ◌*◌, ◌^◌, List, ◌++◌, length};
 ghost use Rattle.std.specs.Prelude.{IfSome, IsNone, IsOk, IsTrue};
 ghost use Rattle.std.specs.Fmt.{decimal};
 ghost use Rattle.hex.specs.Hex.{IsBytes, encode_lower};
-ghost use Rattle.ring.specs.Prelude.{IsTagWithin, KeyStandsFor, key_algorithm, raised};
+ghost use Rattle.ring.specs.Prelude.{IsTagWithin, raised};
 ghost use Rattle.ring.specs.declared.digest.algorithm.TheConstants.{SHA256};
 ghost use Rattle.ring_tokens.specs.Cost.{tag_blocks};
+ghost use Rattle.ring_tokens.specs.Secret.{IsSecret, secret_algorithm};
 ghost use Rattle.ring_tokens.specs.Webhook.{IsGithub, IsStripe, has_item, items_of};
 ghost use Rattle.ring_tokens.specs.Webhook.{stripe_item, stripe_message, timestamp_then};
 
 use crate::number::number_in;
+use crate::secret::SharedSecret;
 use ring::bb::verify_slices_are_equal_counted;
 use ring::cost::Meter;
 use ring::digest::SHA256;
 use ring::error::Unspecified;
-use ring::hmac::{self, Key};
+use ring::hmac;
 use ring::laws::sign_pieces;
 use ring_text::{after, cut_at, fill_from_hex};
 
@@ -51,26 +55,26 @@ fn is_named(name: &[u8], tag: &[u8], text: &[u8], meter: &mut Meter) -> bool
 }
 
 /// Verifies a header as [`verify_github`] does, and counts the blocks of the body's tag and the
-/// compared pairs of bytes on `meter`: those of a whole tag, whatever the header is. Where the key
-/// is for another algorithm or the body is too long, `meter` is as it was.
+/// compared pairs of bytes on `meter`: those of a whole tag, whatever the header is. Where the
+/// secret is for another algorithm or the body is too long, `meter` is as it was.
 #[tactic(auto, using(crate::proofs::Rises::rise_compared))]
 pub fn verify_github_counted(
-    key: &Key,
+    secret: &SharedSecret,
     body: &[u8],
     header: &[u8],
     meter: &mut Meter,
 ) -> Result<(), Unspecified>
-    ensures ok { (k : List ℕ) → KeyStandsFor key.now k
-        → IsOk result ↔ IsGithub (key_algorithm key.now) k body.now header.now }
-    ensures cost { key_algorithm key.now ≡ SHA256 → IsTagWithin SHA256 (length body.now)
+    ensures ok { (k : List ℕ) → IsSecret secret.now k
+        → IsOk result ↔ IsGithub (secret_algorithm secret.now) k body.now header.now }
+    ensures cost { secret_algorithm secret.now ≡ SHA256 → IsTagWithin SHA256 (length body.now)
         → meter.new ≡ raised meter.old (tag_blocks SHA256 (length body.now)) 32 }
-    ensures unchanged { (key_algorithm key.now ≡ SHA256 → IsTagWithin SHA256 (length body.now) → ⊥)
-        → meter.new ≡ meter.old }
+    ensures unchanged { (secret_algorithm secret.now ≡ SHA256
+        → IsTagWithin SHA256 (length body.now) → ⊥) → meter.new ≡ meter.old }
 {
-    if key.algorithm().digest_algorithm() != SHA256 {
+    if secret.key.algorithm().digest_algorithm() != SHA256 {
         return Err(Unspecified);
     }
-    let tag = hmac::sign_counted(key, body, meter)?;
+    let tag = hmac::sign_counted(&secret.key, body, meter)?;
     if !is_named(b"sha256=", tag.as_ref(), header, meter) {
         return Err(Unspecified);
     }
@@ -78,15 +82,15 @@ pub fn verify_github_counted(
 }
 
 /// Returns Ok exactly if `header` is what GitHub sends as `X-Hub-Signature-256` with a body:
-/// `sha256=` and the body's tag in hex. The key is the webhook's secret.
+/// `sha256=` and the body's tag in hex. The secret is the webhook's.
 ///
-/// Refused where the header is another one, where the key is not for HMAC over SHA-256, and where
-/// HMAC does not admit the body.
-pub fn verify_github(key: &Key, body: &[u8], header: &[u8]) -> Result<(), Unspecified>
-    ensures ok { (k : List ℕ) → KeyStandsFor key.now k
-        → IsOk result ↔ IsGithub (key_algorithm key.now) k body.now header.now }
+/// Refused where the header is another one, where the secret is not for HMAC over SHA-256, and
+/// where HMAC does not admit the body.
+pub fn verify_github(secret: &SharedSecret, body: &[u8], header: &[u8]) -> Result<(), Unspecified>
+    ensures ok { (k : List ℕ) → IsSecret secret.now k
+        → IsOk result ↔ IsGithub (secret_algorithm secret.now) k body.now header.now }
 {
-    verify_github_counted(key, body, header, &mut Meter::new())
+    verify_github_counted(secret, body, header, &mut Meter::new())
 }
 
 // A time, as Stripe's header has it.
@@ -139,28 +143,28 @@ fn has_item(items: &[u8], tag: &[u8], meter: &mut Meter) -> bool
 
 /// Verifies a header as [`verify_stripe`] does, and counts the blocks of the tag and the compared
 /// pairs of bytes on `meter`: those of a whole tag for each item, whatever it is. Where the header
-/// has no time or is too old, the key is for another algorithm, or HMAC does not admit what is
+/// has no time or is too old, the secret is for another algorithm, or HMAC does not admit what is
 /// signed, `meter` is as it was.
 pub fn verify_stripe_counted(
-    key: &Key,
+    secret: &SharedSecret,
     body: &[u8],
     header: &[u8],
     now: u64,
     tolerance: u64,
     meter: &mut Meter,
 ) -> Result<(), Unspecified>
-    ensures ok { (k : List ℕ) → KeyStandsFor key.now k
-        → IsOk result ↔ IsStripe (key_algorithm key.now) k body.now header.now now tolerance }
-    ensures cost { (n : ℕ) (items : List ℕ) → key_algorithm key.now ≡ SHA256 → n < 2 ^ 64
+    ensures ok { (k : List ℕ) → IsSecret secret.now k
+        → IsOk result ↔ IsStripe (secret_algorithm secret.now) k body.now header.now now tolerance }
+    ensures cost { (n : ℕ) (items : List ℕ) → secret_algorithm secret.now ≡ SHA256 → n < 2 ^ 64
         → header.now ≡ timestamp_then n items → now ≤ n + tolerance
         → IsTagWithin SHA256 (length (stripe_message n body.now)) → meter.new
         ≡ raised meter.old (tag_blocks SHA256 (length (stripe_message n body.now)))
         (32 * length (items_of items)) }
-    ensures unchanged { ((n : ℕ) (items : List ℕ) → key_algorithm key.now ≡ SHA256 → n < 2 ^ 64
-        → header.now ≡ timestamp_then n items → now ≤ n + tolerance
+    ensures unchanged { ((n : ℕ) (items : List ℕ) → secret_algorithm secret.now ≡ SHA256
+        → n < 2 ^ 64 → header.now ≡ timestamp_then n items → now ≤ n + tolerance
         → IsTagWithin SHA256 (length (stripe_message n body.now)) → ⊥) → meter.new ≡ meter.old }
 {
-    if key.algorithm().digest_algorithm() != SHA256 {
+    if secret.key.algorithm().digest_algorithm() != SHA256 {
         return Err(Unspecified);
     }
     let Some(time) = timestamp_in(header) else {
@@ -169,7 +173,7 @@ pub fn verify_stripe_counted(
     if now as u128 > time.seconds as u128 + tolerance as u128 {
         return Err(Unspecified);
     }
-    let Ok(tag) = sign_pieces(key, &[time.digits, b".", body], meter) else {
+    let Ok(tag) = sign_pieces(&secret.key, &[time.digits, b".", body], meter) else {
         return Err(Unspecified);
     };
     if !has_item(time.items, tag.as_ref(), meter) {
@@ -180,20 +184,20 @@ pub fn verify_stripe_counted(
 
 /// Returns Ok exactly if `header` is what Stripe sends as `Stripe-Signature` with a body, signed no
 /// more than `tolerance` seconds before `now`: `t=` and the time first, and among the items after
-/// it `v1=` and the tag in hex of the time, a full stop and the body. The key is the endpoint's
-/// secret, and times are in seconds since 1970.
+/// it `v1=` and the tag in hex of the time, a full stop and the body. The secret is the
+/// endpoint's, and times are in seconds since 1970.
 ///
-/// Refused where the header is another one or too old, where the key is not for HMAC over SHA-256,
-/// and where HMAC does not admit what is signed.
+/// Refused where the header is another one or too old, where the secret is not for HMAC over
+/// SHA-256, and where HMAC does not admit what is signed.
 pub fn verify_stripe(
-    key: &Key,
+    secret: &SharedSecret,
     body: &[u8],
     header: &[u8],
     now: u64,
     tolerance: u64,
 ) -> Result<(), Unspecified>
-    ensures ok { (k : List ℕ) → KeyStandsFor key.now k
-        → IsOk result ↔ IsStripe (key_algorithm key.now) k body.now header.now now tolerance }
+    ensures ok { (k : List ℕ) → IsSecret secret.now k
+        → IsOk result ↔ IsStripe (secret_algorithm secret.now) k body.now header.now now tolerance }
 {
-    verify_stripe_counted(key, body, header, now, tolerance, &mut Meter::new())
+    verify_stripe_counted(secret, body, header, now, tolerance, &mut Meter::new())
 }

@@ -1,13 +1,14 @@
 -- SPDX-License-Identifier: ISC
 use Rattle.std.proofs.Common.{arith, ap, length, refl, ◌∙◌}
-use Rattle.ring.specs.Prelude.{hmac_of, key_algorithm}
+use Rattle.ring.specs.Prelude.{hmac_of}
+use Rattle.ring_tokens.specs.Secret.{secret_algorithm}
 use Rattle.ring_tokens.specs.Webhook.{has_item, stripe_item, stripe_message}
 use Rattle.ring_tokens.proofs.Items.{stripe_read}
 use Rattle.ring_tokens.proofs.Rises.{stripe_cost}
 use Rattle.ring_tokens.proofs.webhook.verify_stripe_counted.Goals as goal
 
 pub returns-then-now-time-clause-ok : goal.returns-then-now-time-clause-ok
-returns-then-now-time-clause-ok c = λ k key. (
+returns-then-now-time-clause-ok c = λ k secret. (
   λ f. cc f,
   λ w.
       let same = stripe_read c.args.header.now c.in-Some.time c.in-Some.ensures.ok w.time w.items
@@ -21,7 +22,7 @@ returns-then-now-time-clause-cost c = λ n items alg small is recent within.
     absurd (omega (arith, same.0, recent, c.if-now-time.true))
 
 pub returns-in_default-sign_pieces-clause-ok : goal.returns-in_default-sign_pieces-clause-ok
-returns-in_default-sign_pieces-clause-ok c = λ k key. (
+returns-in_default-sign_pieces-clause-ok c = λ k secret. (
   λ f. cc f,
   λ w.
       let same = stripe_read c.args.header.now c.in-Some.time c.in-Some.ensures.ok w.time w.items
@@ -38,14 +39,14 @@ returns-in_default-sign_pieces-clause-cost c = λ n items alg small is recent wi
     absurd (omega (arith, past, within, whole))
 
 pub returns-then-not-has_item-clause-ok : goal.returns-then-not-has_item-clause-ok
-returns-then-not-has_item-clause-ok c = λ k key. (
+returns-then-not-has_item-clause-ok c = λ k secret. (
   λ f. cc f,
   λ w.
-      let a = key_algorithm c.args.key.now in
+      let a = secret_algorithm c.args.secret.now in
       let body = c.args.body.now in
       let same = stripe_read c.args.header.now c.in-Some.time c.in-Some.ensures.ok w.time w.items
       w.small w.is in
-      let tag = c.as_ref.ensures.bytes ∙ (c.in-Ok.ensures.ok k key).bytes
+      let tag = c.as_ref.ensures.bytes ∙ (c.in-Ok.ensures.ok k secret).bytes
       ∙ ap (hmac_of a k) (same.2 body) in
       let found = c.has_item.ensures.ok
       ∙ ap (λ t. has_item (stripe_item t) c.in-Some.time.items.now) tag

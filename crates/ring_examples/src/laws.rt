@@ -1,8 +1,12 @@
 // SPDX-License-Identifier: ISC
 //! Callers whose proofs use a law: the call of a law gives them its clause.
 
-ghost use Rattle.std.specs.Prelude.{◌≡◌, ◌↔◌, ◌≤◌, ℕ, List, IfOk, IsTrue, length, replicate, take};
-ghost use Rattle.ring.specs.Prelude.{IsOutputWithin, PrkStandsFor, digest_of, hmac_of};
+ghost use Rattle.std.specs.Prelude.{◌≡◌, ◌↔◌, ◌+◌, ◌<◌, ◌≤◌, ℕ, List, length, replicate, take};
+ghost use Rattle.std.specs.Prelude.{IfOk, IsErr, IsOk, IsTrue};
+ghost use Rattle.std.specs.Int.NonZero.{non_zero_u32_get};
+ghost use Rattle.ring.specs.Prelude.{CanDerive, IsOutputWithin, PrkStandsFor, compared_pairs};
+ghost use Rattle.ring.specs.Prelude.{digest_of, dk, hmac_of, joined, max_input_len, okm};
+ghost use Rattle.ring.specs.Prelude.{prk_algorithm};
 
 use crate::basics::pairs_of_comparison;
 use crate::hkdf::Length;
@@ -34,10 +38,13 @@ pub fn has_room_for_digest(message: &[u8], len: usize) -> bool
     SHA256_OUTPUT_LEN <= len
 }
 
-/// The pseudorandom key of a secret without a salt: that of a salt of 32 zeros.
+/// The pseudorandom key of a secret without a salt: that of a salt of 32 zeros. Refused where one
+/// block and the secret are longer than the digest algorithm's `max_input_len` bytes.
 pub fn extract_without_salt(secret: &[u8]) -> Result<Prk, Unspecified>
     ensures ok { IfOk result (λ prk.
         PrkStandsFor prk (hmac_of SHA256 (replicate 32 0) secret.now)) }
+    ensures algorithm { IfOk result (λ prk. prk_algorithm prk ≡ SHA256) }
+    ensures refused { IsErr result ↔ (max_input_len SHA256 < 64 + length secret.now) }
 {
     empty_salt_extracts_as_zeros();
     Salt::new(HKDF_SHA256, &[])?.extract(secret)
@@ -46,6 +53,8 @@ pub fn extract_without_salt(secret: &[u8]) -> Result<Prk, Unspecified>
 /// An output of 64 bytes and one of 32 for the same info: the second is the front of the first, so
 /// they are no two keys.
 pub fn long_and_short_output(prk: &Prk, info: &[&[u8]]) -> Result<([u8; 64], [u8; 32]), Unspecified>
+    ensures long { (k : List ℕ) → PrkStandsFor prk.now k → IfOk result (λ both.
+        both.0 ≡ okm (prk_algorithm prk.now) k (joined info.now) 64) }
     ensures front { (k : List ℕ) → PrkStandsFor prk.now k
         → IfOk result (λ both. both.1 ≡ take 32 both.0) }
 {
@@ -58,12 +67,16 @@ pub fn long_and_short_output(prk: &Prk, info: &[&[u8]]) -> Result<([u8; 64], [u8
 }
 
 /// A key of 64 bytes and one of 32 of the same password: the second is the front of the first.
+/// Refused where 64 bytes can't be derived.
 pub fn long_and_short_key(
     iterations: NonZeroU32,
     salt: &[u8],
     password: &[u8],
 ) -> Result<([u8; 64], [u8; 32]), Unspecified>
+    ensures long { IfOk result (λ both.
+        both.0 ≡ dk SHA256 password.now salt.now (non_zero_u32_get iterations) 64) }
     ensures front { IfOk result (λ both. both.1 ≡ take 32 both.0) }
+    ensures refused { IsOk result ↔ CanDerive SHA256 (length password.now) (length salt.now) 64 }
 {
     shorter_derivation_is_a_front();
     let mut long = [0; 64];
@@ -76,7 +89,8 @@ pub fn long_and_short_key(
 /// How many pairs of bytes are read where two tokens are compared, and where they change places: as
 /// many.
 pub fn pairs_both_ways(first: &[u8], second: &[u8]) -> (u128, u128)
-    ensures { result.0 ≡ result.1 }
+    ensures pairs { result.0 ≡ compared_pairs (length first.now) (length second.now) }
+    ensures same { result.0 ≡ result.1 }
 {
     comparison_is_symmetric();
     (

@@ -1,7 +1,7 @@
 // SPDX-License-Identifier: ISC
 //! Schemes by their names, and what the table has of them.
 
-ghost use Rattle.std.specs.Prelude.{◌≡◌, ◌↔◌, true, Some, IsTrue};
+ghost use Rattle.std.specs.Prelude.{◌≡◌, ◌≢◌, ◌↔◌, true, Some, IsTrue};
 ghost use Rattle.std.specs.Str.{IsAscii};
 ghost use Rattle.ring_password_hash.specs.Scheme.{keeps_keys, name_of};
 ghost use Rattle.ring_password_hash.specs.declared.scheme.Scheme.{Scheme};
@@ -11,7 +11,8 @@ use ring_password_hash::{Scheme, needs_preparation};
 
 /// The scheme that an option's word names, or `usual` where it names none.
 pub fn scheme_or(word: &str, usual: Scheme) -> Scheme
-    ensures { (scheme : Scheme) → word.now ≡ name_of scheme → result ≡ scheme }
+    ensures named { (scheme : Scheme) → word.now ≡ name_of scheme → result ≡ scheme }
+    ensures usual { ((scheme : Scheme) → word.now ≢ name_of scheme) → result ≡ usual }
 {
     one_name_is_of_one_scheme();
     match Scheme::named(word) {

@@ -1,10 +1,11 @@
 // SPDX-License-Identifier: ISC
 //! Callers of signed tokens and one-time passwords.
 
-ghost use Rattle.std.specs.Prelude.{◌≡◌, ℕ, ◌<◌, List, IfOk, IsTrue};
+ghost use Rattle.std.specs.Prelude.{◌≡◌, ℕ, ◌<◌, ◌^◌, List, IfOk, IsTrue};
+ghost use Rattle.std.specs.Int.NonZero.{non_zero_u32_get};
 ghost use Rattle.ring_tokens.specs.Claims.{IsCurrent};
 ghost use Rattle.ring_tokens.specs.Jws.{IsJws, IsKey, alg_of};
-ghost use Rattle.ring_tokens.specs.Otp.{hotp_text};
+ghost use Rattle.ring_tokens.specs.Otp.{IsFound, first_step, hotp_text, past_step};
 ghost use Rattle.ring_tokens.specs.Secret.{IsSecret, secret_algorithm};
 
 use ring_tokens::claims::is_current;
@@ -46,13 +47,18 @@ pub fn log_in(
     ensures accepted { (k : List ℕ) → IsSecret secret.now k → IsTrue result
         → (typed.now ≡ hotp_text (secret_algorithm secret.now) k last.new Digits.Six)
         × (last.old < last.new) }
+    ensures right { (k : List ℕ) (found : ℕ) → IsSecret secret.now k → found < 2 ^ 64
+        → IsFound (secret_algorithm secret.now) k (first_step time (non_zero_u32_get step) 1)
+        (past_step time (non_zero_u32_get step) 1) Digits.Six typed.now found
+        → last.old < found → IsTrue result }
     ensures unchanged { ¬ (IsTrue result) → last.new ≡ last.old }
 {
-    match find_totp(secret, time, step, 1, 1, Digits::Six, typed) {
-        Some(found) if found > *last => {
-            *last = found;
-            true
-        }
-        _ => false,
+    let Some(found) = find_totp(secret, time, step, 1, 1, Digits::Six, typed) else {
+        return false;
+    };
+    if found <= *last {
+        return false;
     }
+    *last = found;
+    true
 }

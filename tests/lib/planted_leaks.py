@@ -120,8 +120,8 @@ PLANTED = {
         " | is_it\n",
     ),
     "a one-time password is compared as a number": beside(
-        PASSWORD, "    let written = eight_digits(hotp_counted(key, counter, digits, meter));\n",
-        "if hotp(key, counter, digits) == 0 { let _ = meter.blocks(); }",
+        PASSWORD, "    let written = eight_digits(hotp_counted(secret, counter, digits, meter));\n",
+        "if hotp(secret, counter, digits) == 0 { let _ = meter.blocks(); }",
     ),
     "a one-time password's digit is looked up": beside(
         PASSWORD, PASSWORD_COMPARED, "let _ = text.get(written[7] as usize);",

@@ -3,7 +3,7 @@
  *
  * Written by `make generated` from the proved crate ring_c: do not edit.
  * Kit: rattle-kit-13f logic dac8208d650f15bf
- * Git trees: ring_core 7a6ce8b95ca5 ring 5cf04eb94b58 ring_text 0361677f0770 ring_password_hash 26d5cc0d172a ring_merkle d709947fc126 ring_tokens 99dce6796cbf ring_c 5e258e52a893
+ * Git trees: ring_core e6bfe50c5c8a ring 88418d4ab500 ring_text 0361677f0770 ring_password_hash 26d5cc0d172a ring_merkle c37f6b491030 ring_tokens 64cccb9d4d98 ring_c 0744174b059e
  * Instructions: put in the place of proved functions by instructions.py, git blob 09be9d4b006d
  */
 
@@ -8927,13 +8927,12 @@ L(34_35):
 /* ring_c::otp::write */
 	TYPE(ring_c.otp.write, %function)
 ring_c.otp.write:
-	stp x29, x30, [sp, #-80]!
-	str x28, [sp, #16]
+	stp x29, x30, [sp, #-64]!
+	stp x28, x23, [sp, #16]
 	mov x29, sp
-	stp x24, x23, [sp, #32]
-	stp x22, x21, [sp, #48]
-	stp x20, x19, [sp, #64]
-	sub sp, sp, #0x2e0
+	stp x22, x21, [sp, #32]
+	stp x20, x19, [sp, #48]
+	sub sp, sp, #0x360
 	mov x8, x2
 	mov x2, x1
 	sub w1, w0, #0x1
@@ -8943,130 +8942,196 @@ ring_c.otp.write:
 	sub x19, x6, #0x6
 	cmp x19, #0x3
 	b.cs L(36_2)
-	tbz w3, #0, L(36_0)
+	tbz w3, #0, L(36_3)
 	movi v0.2d, #0x0
-	mov x23, x4
-	add x0, sp, #0x190
-	sub x4, x29, #0x50
-	mov x3, x8
-	mov x20, x5
-	mov x21, x6
-	mov x24, sp
-	sub x22, x29, #0x50
+	add x20, sp, #0x190
 	stp q0, q0, [sp, #400]
 	stp q0, q0, [sp, #432]
 	stp q0, q0, [sp, #464]
 	stp q0, q0, [sp, #496]
 	stp q0, q0, [sp, #528]
 	stp q0, q0, [sp, #560]
-	str q0, [sp, #592]
+	stur q0, [x20, #191]
+	stp q0, q0, [x29, #-240]
+	stp q0, q0, [x29, #-208]
+	stp q0, q0, [x29, #-176]
+	stp q0, q0, [x29, #-144]
+	stp q0, q0, [x29, #-112]
 	stp q0, q0, [x29, #-80]
+	stp q0, q0, [x29, #-48]
+	stur q0, [x29, #-256]
+	cbz x8, L(36_0)
+	mov x23, x4
+	sub x0, x29, #0x100
+	sub x4, x29, #0x30
+	mov x3, x8
+	mov x21, x5
+	mov x22, x6
 	bl ring.hmac.key.Key.new_counted
-	ldp q0, q1, [sp, #544]
-	ldrb w8, [sp, #400]
-	stur q0, [x24, #143]
-	stur q1, [x24, #159]
-	ldp q0, q1, [sp, #576]
-	stur q0, [x24, #175]
-	stur q1, [x24, #191]
-	ldp q0, q1, [sp, #480]
-	stur q0, [sp, #79]
-	stur q1, [sp, #95]
-	ldp q0, q1, [sp, #512]
-	stur q0, [sp, #111]
-	stur q1, [sp, #127]
-	ldp q0, q1, [sp, #416]
-	stur q0, [sp, #15]
-	stur q1, [sp, #31]
-	ldp q0, q1, [sp, #448]
-	stur q0, [sp, #47]
-	stur q1, [sp, #63]
+	ldurb w8, [x29, #-256]
 	cbz w8, L(36_4)
+	movi v0.2d, #0x0
 L(36_0):
+	stur q0, [x20, #191]
 	mov w0, #0x8
-	b L(36_3)
+	stur q0, [x20, #175]
+	stur q0, [x20, #159]
+	stur q0, [x20, #143]
+	stur q0, [x20, #127]
+	stur q0, [x20, #111]
+	stur q0, [x20, #95]
+	stur q0, [x20, #79]
+	stur q0, [x20, #63]
+	stur q0, [x20, #47]
+	stur q0, [x20, #31]
+	stur q0, [x20, #15]
+	add sp, sp, #0x360
+	ldp x20, x19, [sp, #48]
+	ldp x22, x21, [sp, #32]
+	ldp x28, x23, [sp, #16]
+	ldp x29, x30, [sp], #64
+	ret
 L(36_1):
 	mov w0, #0x1
-	b L(36_3)
+	add sp, sp, #0x360
+	ldp x20, x19, [sp, #48]
+	ldp x22, x21, [sp, #32]
+	ldp x28, x23, [sp, #16]
+	ldp x29, x30, [sp], #64
+	ret
 L(36_2):
 	mov w0, #0x4
+	add sp, sp, #0x360
+	ldp x20, x19, [sp, #48]
+	ldp x22, x21, [sp, #32]
+	ldp x28, x23, [sp, #16]
+	ldp x29, x30, [sp], #64
+	ret
 L(36_3):
-	add sp, sp, #0x2e0
-	ldp x20, x19, [sp, #64]
-	ldr x28, [sp, #16]
-	ldp x22, x21, [sp, #48]
-	ldp x24, x23, [sp, #32]
-	ldp x29, x30, [sp], #80
+	mov w0, #0x8
+	add sp, sp, #0x360
+	ldp x20, x19, [sp, #48]
+	ldp x22, x21, [sp, #32]
+	ldp x28, x23, [sp, #16]
+	ldp x29, x30, [sp], #64
 	ret
 L(36_4):
+	ldp q0, q1, [x29, #-112]
 	mov x8, sp
-	add x0, sp, #0x190
+	sub x0, x29, #0x100
 	add x1, sp, #0xd0
-	ldur q0, [x8, #143]
-	ldur q1, [x8, #159]
-	ldur q2, [x8, #175]
-	sub x2, x29, #0x58
-	sub x4, x29, #0x80
+	sub x2, x29, #0x8
+	sub x4, x29, #0x30
 	mov w3, #0x8
+	stur q0, [x20, #143]
+	ldp q0, q2, [x29, #-80]
+	stur q1, [x20, #159]
+	stur q0, [x20, #175]
+	ldp q0, q1, [x29, #-176]
+	stur q2, [x20, #191]
+	stur q0, [x20, #79]
+	stur q1, [x20, #95]
+	ldp q0, q1, [x29, #-144]
+	stur q0, [x20, #111]
+	stur q1, [x20, #127]
+	ldp q0, q1, [x29, #-240]
+	stur q0, [x20, #15]
+	stur q1, [x20, #31]
+	ldp q0, q1, [x29, #-208]
+	sturh wzr, [x29, #-192]
+	stur q0, [x20, #47]
+	ldur q0, [x20, #143]
+	stur q1, [x20, #63]
+	ldur q1, [x20, #159]
+	stur q0, [x8, #143]
+	ldur q0, [x20, #175]
+	stur q1, [x8, #159]
+	ldur q1, [x20, #191]
+	stur q0, [x8, #175]
+	ldur q0, [x20, #79]
+	stur q1, [x8, #191]
+	ldur q1, [x20, #95]
+	ldur q2, [x8, #175]
+	stur q0, [sp, #79]
+	ldur q0, [x20, #111]
+	stur q1, [sp, #95]
+	ldur q1, [x20, #127]
+	stur q0, [sp, #111]
+	ldur q0, [x20, #15]
+	stur q1, [sp, #127]
+	ldur q1, [x20, #31]
+	stur q0, [sp, #15]
+	ldur q0, [x20, #47]
+	stur q1, [sp, #31]
+	ldur q1, [x20, #63]
+	stur q0, [sp, #47]
+	ldur q0, [x8, #143]
+	stur q1, [sp, #63]
+	ldur q1, [x8, #159]
+	ldur q3, [sp, #47]
 	stp q0, q1, [sp, #336]
 	ldur q0, [x8, #191]
-	ldur q1, [x8, #79]
-	strh wzr, [sp, #464]
-	stp q2, q0, [sp, #368]
-	ldur q0, [x8, #95]
-	ldur q2, [x8, #111]
-	stp q1, q0, [sp, #272]
-	ldur q0, [x8, #127]
-	ldur q1, [x8, #15]
-	stp q2, q0, [sp, #304]
-	ldur q0, [x8, #31]
-	ldur q2, [x8, #47]
-	stp q1, q0, [sp, #208]
-	ldur q0, [x8, #63]
+	ldur q1, [sp, #79]
 	rev x8, x23
-	stur x8, [x29, #-88]
-	stp q2, q0, [sp, #240]
-	movi v0.2d, #0x0
-	stp q0, q0, [x29, #-128]
-	stp q0, q0, [sp, #400]
-	stp q0, q0, [sp, #432]
+	stp q2, q0, [sp, #368]
+	ldur q0, [sp, #95]
+	ldur q2, [sp, #111]
+	stur x8, [x29, #-8]
+	stp q1, q0, [sp, #272]
+	ldur q0, [sp, #127]
+	ldur q1, [sp, #15]
+	stp q2, q0, [sp, #304]
+	ldur q0, [sp, #31]
+	movi v2.2d, #0x0
+	stp q1, q0, [sp, #208]
+	ldur q0, [sp, #63]
+	stp q3, q0, [sp, #240]
+	stp q2, q2, [x29, #-256]
+	stp q2, q2, [x29, #-224]
+	stp q2, q2, [x29, #-48]
 	bl ring.hmac.sign_counted
-	ldrb w8, [sp, #400]
-	cbnz w8, L(36_5)
-	ldrb w12, [sp, #465]
+	ldurb w8, [x29, #-256]
+	cbnz w8, L(36_8)
+	sub x8, x29, #0x100
+	ldurb w10, [x29, #-191]
+	ldur q0, [x20, #225]
+	ldur q1, [x20, #241]
+	ldur q2, [x8, #49]
 	add x9, sp, #0x190
-	add x10, x22, #0x20
-	ldur q0, [x9, #33]
-	ldur q1, [x9, #49]
-	add x13, x22, #0x40
-	cmp w12, #0x3
-	add x11, x22, #0x30
-	sub x8, x29, #0x50
-	csel x13, x13, x10, eq
-	cmp w12, #0x2
-	add x14, x8, #0x14
-	stp q0, q1, [x29, #-48]
-	ldur q0, [x9, #17]
-	ldur q1, [x9, #1]
-	csel x9, x11, x13, eq
-	cmp w12, #0x0
-	sturb w12, [x29, #-16]
-	csel x10, x14, x10, eq
-	cmp w12, #0x1
-	stp q1, q0, [x29, #-80]
-	csel x9, x9, x10, gt
+	ldur q3, [x8, #1]
+	cmp w10, #0x1
+	add x8, x9, #0x20
+	mov x2, x22
+	mov x0, x21
+	stp q0, q1, [sp, #416]
+	str q2, [sp, #448]
+	strb w10, [sp, #464]
+	str q3, [sp, #400]
+	b.le L(36_5)
+	cmp w10, #0x2
+	b.eq L(36_6)
+	cmp w10, #0x3
+	b.ne L(36_7)
+	add x8, x9, #0x40
+	b L(36_7)
+L(36_5):
+	cbnz w10, L(36_7)
+	add x8, x9, #0x14
+	b L(36_7)
+L(36_6):
+	add x8, x9, #0x30
+L(36_7):
+	ldurb w8, [x8, #-1]
+	add x9, sp, #0x190
 	movi v5.2s, #0xa
 	mov w12, #0xa
-	ldurb w9, [x9, #-1]
 	mov w11, #0xca6b
-	mov x2, x21
+	bfxil x9, x8, #0, #4
 	movk w11, #0x6b5f, lsl #16
-	mov x0, x20
-	bfxil x8, x9, #0, #4
+	ldr w8, [x9]
 	adrp x9, PAGE(L(switch.table.ring_tokens.otp.find_hotp_counted))
 	add x9, x9, IN_PAGE(L(switch.table.ring_tokens.otp.find_hotp_counted))
 	ldr w9, [x9, x19, lsl #2]
-	ldr w8, [x8]
 	and w8, w8, #0xffffff7f
 	rev w8, w8
 	udiv w10, w8, w9
@@ -9131,11 +9196,11 @@ L(36_4):
 	orr v1.2s, #0x30
 	ldr q7, [x9, IN_PAGE(L(183_52))]
 	mov v2.d[1], x8
-	add x8, sp, #0x190
+	sub x8, x29, #0x100
 	uxtl v3.2d, v0.2s
 	uxtl v1.2d, v1.2s
 	uxtl2 v0.2d, v0.4s
-	sub x8, x8, x21
+	sub x8, x8, x2
 	add x1, x8, #0x8
 	ushl v3.2d, v3.2d, v4.2d
 	ushl v0.2d, v0.2d, v5.2d
@@ -9146,13 +9211,18 @@ L(36_4):
 	orr v0.16b, v1.16b, v0.16b
 	ext v1.16b, v0.16b, v0.16b, #8
 	orr v0.8b, v0.8b, v1.8b
-	str d0, [sp, #400]
+	stur d0, [x29, #-256]
 	bl memcpy
 	mov w0, wzr
-	b L(36_3)
-L(36_5):
+	add sp, sp, #0x360
+	ldp x20, x19, [sp, #48]
+	ldp x22, x21, [sp, #32]
+	ldp x28, x23, [sp, #16]
+	ldp x29, x30, [sp], #64
+	ret
+L(36_8):
 	brk #0x1
-	SIZE(ring_c.otp.write, 876)
+	SIZE(ring_c.otp.write, 1144)
 
 	CODE(ring_tokens.otp.find_hotp_counted)
 	.p2align 2
@@ -22454,19 +22524,20 @@ yz_hotp:
 	TYPE(yz_hotp_find, %function)
 yz_hotp_find:
 	stp x29, x30, [sp, #-80]!
+	str x28, [sp, #16]
+	mov x29, sp
+	stp x24, x23, [sp, #32]
+	stp x22, x21, [sp, #48]
+	stp x20, x19, [sp, #64]
+	sub sp, sp, #0x290
 	cmp x1, #0x0
 	mov w10, #0x1000
-	stp x24, x23, [sp, #32]
+	sub w8, w0, #0x1
 	csel x9, x10, xzr, eq
 	cmp x6, #0x0
-	sub w8, w0, #0x1
+	stp xzr, xzr, [sp]
 	csel x23, x10, xzr, eq
-	stp x28, x25, [sp, #16]
-	mov x29, sp
-	stp x22, x21, [sp, #48]
 	cmp w8, #0x3
-	stp x20, x19, [sp, #64]
-	stp xzr, xzr, [sp, #-448]!
 	b.hi L(146_0)
 	sub x19, x5, #0x6
 	cmp x19, #0x2
@@ -22474,71 +22545,97 @@ yz_hotp_find:
 	movi v0.2d, #0x0
 	mov x22, x3
 	mov x3, x2
+	stp xzr, xzr, [sp, #240]
+	stp q0, q0, [sp, #208]
+	stp q0, q0, [x29, #-192]
+	stp q0, q0, [x29, #-160]
+	stp q0, q0, [x29, #-128]
+	stp q0, q0, [x29, #-96]
+	stp q0, q0, [x29, #-64]
+	stp q0, q0, [x29, #-32]
+	stur q0, [x29, #-208]
+	cbz x2, L(146_2)
 	mov x21, x4
-	add x0, sp, #0xd0
+	sub x0, x29, #0xd0
 	add x2, x1, x9
-	sub x4, x29, #0x20
+	add x4, sp, #0xd0
 	mov w1, w8
 	mov x24, x6
 	mov x20, x7
-	mov x25, sp
-	stp q0, q0, [sp, #208]
-	stp q0, q0, [sp, #240]
-	stp q0, q0, [sp, #272]
-	stp q0, q0, [sp, #304]
-	stp q0, q0, [sp, #336]
-	stp q0, q0, [sp, #368]
-	str q0, [sp, #400]
-	stp q0, q0, [x29, #-32]
 	bl ring.hmac.key.Key.new_counted
-	ldp q0, q1, [sp, #352]
-	ldrb w8, [sp, #208]
-	stur q0, [x25, #143]
-	stur q1, [x25, #159]
-	ldp q0, q1, [sp, #384]
-	stur q0, [x25, #175]
-	stur q1, [x25, #191]
-	ldp q0, q1, [sp, #288]
-	stur q0, [sp, #79]
-	stur q1, [sp, #95]
-	ldp q0, q1, [sp, #320]
-	stur q0, [sp, #111]
-	stur q1, [sp, #127]
-	ldp q0, q1, [sp, #224]
-	stur q0, [sp, #15]
-	stur q1, [sp, #31]
-	ldp q0, q1, [sp, #256]
-	stur q0, [sp, #47]
-	stur q1, [sp, #63]
+	ldurb w8, [x29, #-208]
 	cbnz w8, L(146_2)
-	mov x8, sp
-	add x0, sp, #0xd0
+	ldp q0, q1, [x29, #-64]
+	add x8, sp, #0xf0
+	mov x9, sp
+	sub x0, x29, #0xd0
 	add x4, x24, x23
-	ldur q0, [x8, #143]
-	ldur q1, [x8, #159]
-	ldur q2, [x8, #175]
-	sub x6, x29, #0x20
+	add x6, sp, #0xf0
 	mov x1, x22
 	mov x2, x21
-	stp q0, q1, [sp, #336]
-	ldur q0, [x8, #191]
-	ldur q1, [x8, #79]
+	stur q0, [x8, #143]
+	ldp q0, q2, [x29, #-32]
+	stur q1, [x8, #159]
 	mov w3, w19
 	mov x5, x20
-	stp q2, q0, [sp, #368]
-	ldur q0, [x8, #95]
-	ldur q2, [x8, #111]
-	stp q1, q0, [sp, #272]
-	ldur q0, [x8, #127]
-	ldur q1, [x8, #15]
-	stp q2, q0, [sp, #304]
-	ldur q0, [x8, #31]
-	ldur q2, [x8, #47]
-	stp q1, q0, [sp, #208]
-	ldur q0, [x8, #63]
-	stp q2, q0, [sp, #240]
-	movi v0.2d, #0x0
-	stp q0, q0, [x29, #-32]
+	stur q0, [x8, #175]
+	ldp q0, q1, [x29, #-128]
+	stur q2, [x8, #191]
+	stur q0, [x8, #79]
+	stur q1, [x8, #95]
+	ldp q0, q1, [x29, #-96]
+	stur q0, [x8, #111]
+	stur q1, [x8, #127]
+	ldp q0, q1, [x29, #-192]
+	stur q0, [x8, #15]
+	stur q1, [x8, #31]
+	ldp q0, q1, [x29, #-160]
+	stur q0, [x8, #47]
+	ldur q0, [x8, #143]
+	stur q1, [x8, #63]
+	ldur q1, [x8, #159]
+	stur q0, [x9, #143]
+	ldur q0, [x8, #175]
+	stur q1, [x9, #159]
+	ldur q1, [x8, #191]
+	stur q0, [x9, #175]
+	ldur q0, [x8, #79]
+	stur q1, [x9, #191]
+	ldur q1, [x8, #95]
+	ldur q2, [x9, #175]
+	stur q0, [sp, #79]
+	ldur q0, [x8, #111]
+	stur q1, [sp, #95]
+	ldur q1, [x8, #127]
+	stur q0, [sp, #111]
+	ldur q0, [x8, #15]
+	stur q1, [sp, #127]
+	ldur q1, [x8, #31]
+	stur q0, [sp, #15]
+	ldur q0, [x8, #47]
+	stur q1, [sp, #31]
+	ldur q1, [x8, #63]
+	stur q0, [sp, #47]
+	ldur q0, [x9, #143]
+	stur q1, [sp, #63]
+	ldur q1, [x9, #159]
+	ldur q3, [sp, #47]
+	stp q0, q1, [x29, #-80]
+	ldur q0, [x9, #191]
+	ldur q1, [sp, #79]
+	stp q2, q0, [x29, #-48]
+	ldur q0, [sp, #95]
+	ldur q2, [sp, #111]
+	stp q1, q0, [x29, #-144]
+	ldur q0, [sp, #127]
+	ldur q1, [sp, #15]
+	stp q2, q0, [x29, #-112]
+	ldur q0, [sp, #31]
+	movi v2.2d, #0x0
+	stp q1, q0, [x29, #-208]
+	ldur q0, [sp, #63]
+	stp q3, q0, [x29, #-176]
+	stp q2, q2, [sp, #240]
 	bl ring_tokens.otp.find_hotp_counted
 	and w8, w0, #0xff
 	cmp w8, #0x1
@@ -22556,14 +22653,14 @@ L(146_1):
 L(146_2):
 	mov w0, #0x8
 L(146_3):
-	add sp, sp, #0x1c0
+	add sp, sp, #0x290
 	ldp x20, x19, [sp, #64]
+	ldr x28, [sp, #16]
 	ldp x22, x21, [sp, #48]
 	ldp x24, x23, [sp, #32]
-	ldp x28, x25, [sp, #16]
 	ldp x29, x30, [sp], #80
 	ret
-	SIZE(yz_hotp_find, 424)
+	SIZE(yz_hotp_find, 532)
 
 	CODE(yz_jws_sign)
 	.p2align 2
@@ -24755,15 +24852,14 @@ L(178_1):
 	.globl yz_totp_find
 	TYPE(yz_totp_find, %function)
 yz_totp_find:
-	stp x29, x30, [sp, #-96]!
-	str x28, [sp, #16]
+	stp x29, x30, [sp, #-80]!
+	stp x28, x25, [sp, #16]
 	mov x29, sp
-	stp x26, x25, [sp, #32]
-	stp x24, x23, [sp, #48]
-	stp x22, x21, [sp, #64]
-	stp x20, x19, [sp, #80]
-	sub sp, sp, #0x1c0
-	ldr x20, [x29, #96]
+	stp x24, x23, [sp, #32]
+	stp x22, x21, [sp, #48]
+	stp x20, x19, [sp, #64]
+	sub sp, sp, #0x290
+	ldr x20, [x29, #80]
 	cmp x1, #0x0
 	mov w10, #0x1000
 	csel x9, x10, xzr, eq
@@ -24778,83 +24874,109 @@ yz_totp_find:
 	b.hi L(180_1)
 	cbz w4, L(180_2)
 	movi v0.2d, #0x0
+	stp xzr, xzr, [sp, #240]
+	stp q0, q0, [sp, #208]
+	stp q0, q0, [x29, #-192]
+	stp q0, q0, [x29, #-160]
+	stp q0, q0, [x29, #-128]
+	stp q0, q0, [x29, #-96]
+	stp q0, q0, [x29, #-64]
+	stp q0, q0, [x29, #-32]
+	stur q0, [x29, #-208]
+	cbz x2, L(180_2)
 	mov w25, w4
 	mov x24, x3
-	add x0, sp, #0xd0
+	sub x0, x29, #0xd0
 	mov x3, x2
 	add x2, x1, x9
-	sub x4, x29, #0x20
+	add x4, sp, #0xd0
 	mov w1, w8
 	mov w23, w5
 	mov w22, w6
-	mov x26, sp
-	stp q0, q0, [sp, #208]
-	stp q0, q0, [sp, #240]
-	stp q0, q0, [sp, #272]
-	stp q0, q0, [sp, #304]
-	stp q0, q0, [sp, #336]
-	stp q0, q0, [sp, #368]
-	str q0, [sp, #400]
-	stp q0, q0, [x29, #-32]
 	bl ring.hmac.key.Key.new_counted
-	ldp q0, q1, [sp, #352]
-	ldrb w8, [sp, #208]
-	stur q0, [x26, #143]
-	stur q1, [x26, #159]
-	ldp q0, q1, [sp, #384]
-	stur q0, [x26, #175]
-	stur q1, [x26, #191]
-	ldp q0, q1, [sp, #288]
-	stur q0, [sp, #79]
-	stur q1, [sp, #95]
-	ldp q0, q1, [sp, #320]
-	stur q0, [sp, #111]
-	stur q1, [sp, #127]
-	ldp q0, q1, [sp, #224]
-	stur q0, [sp, #15]
-	stur q1, [sp, #31]
-	ldp q0, q1, [sp, #256]
-	stur q0, [sp, #47]
-	stur q1, [sp, #63]
+	ldurb w8, [x29, #-208]
 	cbnz w8, L(180_2)
-	mov w8, w25
+	ldp q0, q1, [x29, #-64]
+	add x8, sp, #0xf0
 	mov x9, sp
-	ldr x5, [x29, #104]
-	udiv x8, x24, x8
-	ldur q0, [x9, #143]
-	ldur q1, [x9, #159]
-	ldur q2, [x9, #175]
-	add x0, sp, #0xd0
+	mov w10, w25
+	ldr x5, [x29, #88]
+	udiv x10, x24, x10
+	sub x0, x29, #0xd0
 	add x4, x20, x21
-	stp q0, q1, [sp, #336]
-	ldur q0, [x9, #191]
-	ldur q1, [x9, #79]
-	sub x6, x29, #0x20
+	stur q0, [x8, #143]
+	ldp q0, q2, [x29, #-32]
+	stur q1, [x8, #159]
+	add x6, sp, #0xf0
 	mov w3, w19
-	stp q2, q0, [sp, #368]
-	ldur q0, [x9, #95]
-	ldur q2, [x9, #111]
-	stp q1, q0, [sp, #272]
-	ldur q0, [x9, #127]
-	ldur q1, [x9, #15]
-	stp q2, q0, [sp, #304]
-	ldur q0, [x9, #31]
-	ldur q2, [x9, #47]
-	stp q1, q0, [sp, #208]
-	ldur q0, [x9, #63]
-	stp q2, q0, [sp, #240]
-	movi v0.2d, #0x0
-	subs x9, x8, w23, uxtw
-	add x8, x8, w22, uxtw
-	stp q0, q0, [x29, #-32]
-	csel x1, xzr, x9, cc
-	sub x8, x8, x1
+	stur q0, [x8, #175]
+	ldp q0, q1, [x29, #-128]
+	stur q2, [x8, #191]
+	stur q0, [x8, #79]
+	stur q1, [x8, #95]
+	ldp q0, q1, [x29, #-96]
+	stur q0, [x8, #111]
+	stur q1, [x8, #127]
+	ldp q0, q1, [x29, #-192]
+	stur q0, [x8, #15]
+	stur q1, [x8, #31]
+	ldp q0, q1, [x29, #-160]
+	stur q0, [x8, #47]
+	ldur q0, [x8, #143]
+	stur q1, [x8, #63]
+	ldur q1, [x8, #159]
+	stur q0, [x9, #143]
+	ldur q0, [x8, #175]
+	stur q1, [x9, #159]
+	ldur q1, [x8, #191]
+	stur q0, [x9, #175]
+	ldur q0, [x8, #79]
+	stur q1, [x9, #191]
+	ldur q1, [x8, #95]
+	ldur q2, [x9, #175]
+	stur q0, [sp, #79]
+	ldur q0, [x8, #111]
+	stur q1, [sp, #95]
+	ldur q1, [x8, #127]
+	stur q0, [sp, #111]
+	ldur q0, [x8, #15]
+	stur q1, [sp, #127]
+	ldur q1, [x8, #31]
+	stur q0, [sp, #15]
+	ldur q0, [x8, #47]
+	stur q1, [sp, #31]
+	ldur q1, [x8, #63]
+	subs x8, x10, w23, uxtw
+	stur q0, [sp, #47]
+	ldur q0, [x9, #143]
+	stur q1, [sp, #63]
+	ldur q1, [x9, #159]
+	csel x1, xzr, x8, cc
+	ldur q3, [sp, #47]
+	stp q0, q1, [x29, #-80]
+	ldur q0, [x9, #191]
+	ldur q1, [sp, #79]
+	add x9, x10, w22, uxtw
+	stp q2, q0, [x29, #-48]
+	ldur q0, [sp, #95]
+	ldur q2, [sp, #111]
+	sub x8, x9, x1
+	stp q1, q0, [x29, #-144]
+	ldur q0, [sp, #127]
+	ldur q1, [sp, #15]
 	add x2, x8, #0x1
+	stp q2, q0, [x29, #-112]
+	ldur q0, [sp, #31]
+	movi v2.2d, #0x0
+	stp q1, q0, [x29, #-208]
+	ldur q0, [sp, #63]
+	stp q3, q0, [x29, #-176]
+	stp q2, q2, [sp, #240]
 	bl ring_tokens.otp.find_hotp_counted
 	and w8, w0, #0xff
 	cmp w8, #0x1
 	b.ne L(180_2)
-	ldr x8, [x29, #112]
+	ldr x8, [x29, #96]
 	mov w0, wzr
 	str x1, [x8]
 	b L(180_3)
@@ -24867,15 +24989,14 @@ L(180_1):
 L(180_2):
 	mov w0, #0x8
 L(180_3):
-	add sp, sp, #0x1c0
-	ldp x20, x19, [sp, #80]
-	ldr x28, [sp, #16]
-	ldp x22, x21, [sp, #64]
-	ldp x24, x23, [sp, #48]
-	ldp x26, x25, [sp, #32]
-	ldp x29, x30, [sp], #96
+	add sp, sp, #0x290
+	ldp x20, x19, [sp, #64]
+	ldp x22, x21, [sp, #48]
+	ldp x24, x23, [sp, #32]
+	ldp x28, x25, [sp, #16]
+	ldp x29, x30, [sp], #80
 	ret
-	SIZE(yz_totp_find, 464)
+	SIZE(yz_totp_find, 560)
 
 	CODE(yz_version)
 	.p2align 2

@@ -3,7 +3,7 @@
  *
  * Written by `make generated` from the proved crate ring_c: do not edit.
  * Kit: rattle-kit-13f logic dac8208d650f15bf
- * Git trees: ring_core 7a6ce8b95ca5 ring 5cf04eb94b58 ring_text 0361677f0770 ring_password_hash 26d5cc0d172a ring_merkle d709947fc126 ring_tokens 99dce6796cbf ring_c 5e258e52a893
+ * Git trees: ring_core e6bfe50c5c8a ring 88418d4ab500 ring_text 0361677f0770 ring_password_hash 26d5cc0d172a ring_merkle c37f6b491030 ring_tokens 64cccb9d4d98 ring_c 0744174b059e
  * Instructions: put in the place of proved functions by instructions.py, git blob 09be9d4b006d
  */
 
@@ -11707,6 +11707,8 @@ ring_c.otp.write:
 	.seh_pushreg %r15
 	pushq %r14
 	.seh_pushreg %r14
+	pushq %r12
+	.seh_pushreg %r12
 	pushq %rsi
 	.seh_pushreg %rsi
 	pushq %rdi
@@ -11715,10 +11717,8 @@ ring_c.otp.write:
 	.seh_pushreg %rbp
 	pushq %rbx
 	.seh_pushreg %rbx
-	subq $776, %rsp
-	.seh_stackalloc 776
-	movaps %xmm6, 752(%rsp)
-	.seh_savexmm %xmm6, 752
+	subq $880, %rsp
+	.seh_stackalloc 880
 	.seh_endprologue
 	movq %r8, %r10
 	movq %rdx, %r8
@@ -11726,97 +11726,145 @@ ring_c.otp.write:
 	decl %edx
 	movl $1, %eax
 	cmpl $3, %edx
-	ja .LBB17_11
-	movq 880(%rsp), %rsi
+	ja .LBB17_14
+	movq 992(%rsp), %rsi
 	leaq -6(%rsi), %rcx
 	movl $4, %eax
 	cmpq $3, %rcx
-	jae .LBB17_11
+	jae .LBB17_14
 	movl $8, %eax
 	cmpb $1, %r9b
-	jne .LBB17_11
-	xorps %xmm6, %xmm6
-	movaps %xmm6, 128(%rsp)
-	movaps %xmm6, 144(%rsp)
-	movaps %xmm6, 160(%rsp)
-	movaps %xmm6, 176(%rsp)
-	movaps %xmm6, 192(%rsp)
-	movaps %xmm6, 208(%rsp)
-	movaps %xmm6, 224(%rsp)
-	movaps %xmm6, 240(%rsp)
-	movaps %xmm6, 256(%rsp)
-	movaps %xmm6, 272(%rsp)
-	movaps %xmm6, 288(%rsp)
-	movaps %xmm6, 304(%rsp)
-	movaps %xmm6, 320(%rsp)
-	leaq 144(%rsp), %rdi
-	movaps %xmm6, 48(%rsp)
-	movaps %xmm6, 64(%rsp)
-	leaq 48(%rsp), %rax
-	movq %rax, 32(%rsp)
-	leaq 128(%rsp), %rcx
+	jne .LBB17_14
+	xorps %xmm0, %xmm0
+	movaps %xmm0, 48(%rsp)
+	movaps %xmm0, 64(%rsp)
+	movaps %xmm0, 80(%rsp)
+	movaps %xmm0, 96(%rsp)
+	movaps %xmm0, 112(%rsp)
+	movaps %xmm0, 128(%rsp)
+	movaps %xmm0, 144(%rsp)
+	movaps %xmm0, 160(%rsp)
+	movaps %xmm0, 176(%rsp)
+	movaps %xmm0, 192(%rsp)
+	movaps %xmm0, 208(%rsp)
+	movaps %xmm0, 224(%rsp)
+	movups %xmm0, 239(%rsp)
+	movaps %xmm0, 256(%rsp)
+	movaps %xmm0, 272(%rsp)
+	movaps %xmm0, 480(%rsp)
+	movaps %xmm0, 464(%rsp)
+	movaps %xmm0, 448(%rsp)
+	movaps %xmm0, 432(%rsp)
+	movaps %xmm0, 416(%rsp)
+	movaps %xmm0, 400(%rsp)
+	movaps %xmm0, 384(%rsp)
+	movaps %xmm0, 368(%rsp)
+	movaps %xmm0, 352(%rsp)
+	movaps %xmm0, 336(%rsp)
+	movaps %xmm0, 320(%rsp)
+	movaps %xmm0, 304(%rsp)
+	movaps %xmm0, 288(%rsp)
+	testq %r10, %r10
+	je .LBB17_4
+	leaq 256(%rsp), %r15
+	movq %r15, 32(%rsp)
+	leaq 288(%rsp), %rcx
 	movq %r10, %r9
 	callq ring.hmac.key.Key.new_counted
-	movzbl 128(%rsp), %ebx
-	leaq 368(%rsp), %rcx
-	movl $192, %r8d
-	movq %rdi, %rdx
-	callq memcpy
+	cmpb $0, 288(%rsp)
+	je .LBB17_7
+	xorps %xmm0, %xmm0
+	movups %xmm0, 239(%rsp)
+	movups %xmm0, 223(%rsp)
+	movups %xmm0, 207(%rsp)
+	movups %xmm0, 191(%rsp)
+	movups %xmm0, 175(%rsp)
+	movups %xmm0, 159(%rsp)
+	movups %xmm0, 143(%rsp)
+	movups %xmm0, 127(%rsp)
+	movups %xmm0, 111(%rsp)
+	movups %xmm0, 95(%rsp)
+	movups %xmm0, 79(%rsp)
+	movups %xmm0, 63(%rsp)
 	movl $8, %eax
-	testb %bl, %bl
-	jne .LBB17_11
-	movq 864(%rsp), %rdi
-	leaq 560(%rsp), %rbx
-	leaq 368(%rsp), %rdx
+	jmp .LBB17_14
+.LBB17_4:
+	movups %xmm0, 239(%rsp)
+	movups %xmm0, 223(%rsp)
+	movups %xmm0, 207(%rsp)
+	movups %xmm0, 191(%rsp)
+	movups %xmm0, 175(%rsp)
+	movups %xmm0, 159(%rsp)
+	movups %xmm0, 143(%rsp)
+	movups %xmm0, 127(%rsp)
+	movups %xmm0, 111(%rsp)
+	movups %xmm0, 95(%rsp)
+	movups %xmm0, 79(%rsp)
+	movups %xmm0, 63(%rsp)
+	jmp .LBB17_14
+.LBB17_7:
+	movq 976(%rsp), %r12
+	leaq 304(%rsp), %rdx
+	leaq 63(%rsp), %rdi
+	movl $192, %r8d
+	movq %rdi, %rcx
+	callq memcpy
+	leaq 688(%rsp), %rbx
 	movl $192, %r8d
 	movq %rbx, %rcx
+	movq %rdi, %rdx
 	callq memcpy
-	movaps %xmm6, 352(%rsp)
-	movaps %xmm6, 336(%rsp)
-	movaps %xmm6, 128(%rsp)
-	movaps %xmm6, 144(%rsp)
-	movaps %xmm6, 160(%rsp)
-	movaps %xmm6, 176(%rsp)
-	movw $0, 192(%rsp)
-	bswapq %rdi
-	movq %rdi, 40(%rsp)
-	leaq 336(%rsp), %rax
-	movq %rax, 32(%rsp)
-	leaq 128(%rsp), %rdi
+	leaq 496(%rsp), %r14
+	movl $192, %r8d
+	movq %r14, %rcx
+	movq %rbx, %rdx
+	callq memcpy
+	xorps %xmm0, %xmm0
+	movaps %xmm0, 272(%rsp)
+	movaps %xmm0, 256(%rsp)
+	movaps %xmm0, 288(%rsp)
+	movaps %xmm0, 304(%rsp)
+	movaps %xmm0, 320(%rsp)
+	movaps %xmm0, 336(%rsp)
+	movw $0, 352(%rsp)
+	bswapq %r12
+	movq %r12, 40(%rsp)
+	movq %r15, 32(%rsp)
+	leaq 288(%rsp), %rdi
 	leaq 40(%rsp), %r8
 	movl $8, %r9d
 	movq %rdi, %rcx
-	movq %rbx, %rdx
+	movq %r14, %rdx
 	callq ring.hmac.sign_counted
-	cmpb $0, 128(%rsp)
-	jne .LBB17_12
-	movq 872(%rsp), %rcx
-	movups 129(%rsp), %xmm0
-	movups 145(%rsp), %xmm1
-	movups 161(%rsp), %xmm2
-	movups 177(%rsp), %xmm3
+	cmpb $0, 288(%rsp)
+	jne .LBB17_15
+	movq 984(%rsp), %rcx
+	movups 289(%rsp), %xmm0
+	movups 305(%rsp), %xmm1
+	movups 321(%rsp), %xmm2
+	movups 337(%rsp), %xmm3
 	movaps %xmm3, 96(%rsp)
 	movaps %xmm2, 80(%rsp)
 	movaps %xmm1, 64(%rsp)
 	movaps %xmm0, 48(%rsp)
-	movzbl 193(%rsp), %eax
+	movzbl 353(%rsp), %eax
 	movb %al, 112(%rsp)
 	leaq .LJTI17_0(%rip), %rdx
 	movslq (%rdx,%rax,4), %rax
 	addq %rdx, %rax
 	jmpq *%rax
-.LBB17_7:
-	leaq 80(%rsp), %rax
-	jmp .LBB17_10
-.LBB17_9:
-	leaq 112(%rsp), %rax
-	jmp .LBB17_10
-.LBB17_6:
-	leaq 68(%rsp), %rax
-	jmp .LBB17_10
-.LBB17_8:
-	leaq 96(%rsp), %rax
 .LBB17_10:
+	leaq 80(%rsp), %rax
+	jmp .LBB17_13
+.LBB17_12:
+	leaq 112(%rsp), %rax
+	jmp .LBB17_13
+.LBB17_9:
+	leaq 68(%rsp), %rax
+	jmp .LBB17_13
+.LBB17_11:
+	leaq 96(%rsp), %rax
+.LBB17_13:
 	movzbl -1(%rax), %edx
 	andl $15, %edx
 	leaq .Lswitch.table.ring_tokens.otp.find_hotp_counted(%rip), %r8
@@ -11897,33 +11945,33 @@ ring_c.otp.write:
 	shll $8, %edx
 	orq %r9, %rdx
 	orq %rax, %rdx
-	movq %rdx, 128(%rsp)
+	movq %rdx, 288(%rsp)
 	subq %rsi, %rdi
 	addq $8, %rdi
 	movq %rdi, %rdx
 	movq %rsi, %r8
 	callq memcpy
 	xorl %eax, %eax
-.LBB17_11:
-	movaps 752(%rsp), %xmm6
-	addq $776, %rsp
+.LBB17_14:
+	addq $880, %rsp
 	popq %rbx
 	popq %rbp
 	popq %rdi
 	popq %rsi
+	popq %r12
 	popq %r14
 	popq %r15
 	retq
-.LBB17_12:
+.LBB17_15:
 	ud2
 	.section .rdata,"dr"
 	.p2align 2, 0x0
 .LJTI17_0:
-	.long .LBB17_6-.LJTI17_0
-	.long .LBB17_7-.LJTI17_0
-	.long .LBB17_8-.LJTI17_0
 	.long .LBB17_9-.LJTI17_0
-	.long .LBB17_7-.LJTI17_0
+	.long .LBB17_10-.LJTI17_0
+	.long .LBB17_11-.LJTI17_0
+	.long .LBB17_12-.LJTI17_0
+	.long .LBB17_10-.LJTI17_0
 	.text
 	.seh_endproc
 	.p2align 4
@@ -31128,95 +31176,60 @@ v2_yz_hotp_find:
 	.seh_pushreg %rbp
 	pushq %rbx
 	.seh_pushreg %rbx
-	subq $536, %rsp
-	.seh_stackalloc 536
-	movaps %xmm6, 512(%rsp)
-	.seh_savexmm %xmm6, 512
+	subq $520, %rsp
+	.seh_stackalloc 520
 	.seh_endprologue
 	movq %r9, %rdi
 	movq %r8, %r9
 	movq %rdx, %r8
 	movl %ecx, %edx
-	movq 656(%rsp), %r12
+	movq 640(%rsp), %r12
 	xorl %ecx, %ecx
 	testq %r8, %r8
 	sete %r10b
-	xorl %r15d, %r15d
+	xorl %r14d, %r14d
 	testq %r12, %r12
 	sete %bpl
 	decl %edx
 	movl $1, %eax
 	cmpl $3, %edx
-	ja .LBB79_5
-	movq 648(%rsp), %rsi
+	ja .LBB79_7
+	movq 632(%rsp), %rsi
 	addq $-6, %rsi
 	movl $4, %eax
 	cmpq $2, %rsi
-	ja .LBB79_5
-	movq %rdi, 56(%rsp)
+	ja .LBB79_7
+	xorps %xmm0, %xmm0
+	movaps %xmm0, 80(%rsp)
+	movaps %xmm0, 64(%rsp)
+	movaps %xmm0, 288(%rsp)
+	movaps %xmm0, 272(%rsp)
+	movaps %xmm0, 256(%rsp)
+	movaps %xmm0, 240(%rsp)
+	movaps %xmm0, 224(%rsp)
+	movaps %xmm0, 208(%rsp)
+	movaps %xmm0, 192(%rsp)
+	movaps %xmm0, 176(%rsp)
+	movaps %xmm0, 160(%rsp)
+	movaps %xmm0, 144(%rsp)
+	movaps %xmm0, 128(%rsp)
+	movaps %xmm0, 112(%rsp)
+	movaps %xmm0, 96(%rsp)
+	testq %r9, %r9
+	je .LBB79_4
 	movb %r10b, %cl
 	shll $12, %ecx
 	addq %rcx, %r8
-	xorps %xmm6, %xmm6
-	movaps %xmm6, 96(%rsp)
-	movaps %xmm6, 112(%rsp)
-	movaps %xmm6, 128(%rsp)
-	movaps %xmm6, 144(%rsp)
-	movaps %xmm6, 160(%rsp)
-	movaps %xmm6, 176(%rsp)
-	movaps %xmm6, 192(%rsp)
-	movaps %xmm6, 208(%rsp)
-	movaps %xmm6, 224(%rsp)
-	movaps %xmm6, 240(%rsp)
-	movaps %xmm6, 256(%rsp)
-	movaps %xmm6, 272(%rsp)
-	movaps %xmm6, 288(%rsp)
-	leaq 112(%rsp), %r14
-	movaps %xmm6, 64(%rsp)
-	movaps %xmm6, 80(%rsp)
 	leaq 64(%rsp), %r13
 	movq %r13, 32(%rsp)
 	leaq 96(%rsp), %rcx
 	callq ring.hmac.key.Key.new_counted
-	leaq 320(%rsp), %rbx
-	movzbl 96(%rsp), %edi
-	movl $192, %r8d
-	movq %rbx, %rcx
-	movq %r14, %rdx
-	callq memcpy
+	cmpb $0, 96(%rsp)
+	je .LBB79_5
+.LBB79_4:
 	movl $8, %eax
-	testb %dil, %dil
-	jne .LBB79_5
-	movq 664(%rsp), %rdi
-	movq 640(%rsp), %r14
-	movb %bpl, %r15b
-	shll $12, %r15d
-	addq %r15, %r12
-	leaq 96(%rsp), %r15
-	movl $192, %r8d
-	movq %r15, %rcx
-	movq %rbx, %rdx
-	callq memcpy
-	movaps %xmm6, 80(%rsp)
-	movaps %xmm6, 64(%rsp)
-	movq %r13, 48(%rsp)
-	movq %rdi, 40(%rsp)
-	movq %r12, 32(%rsp)
-	movq %r15, %rcx
-	movq 56(%rsp), %rdx
-	movq %r14, %r8
-	movl %esi, %r9d
-	callq ring_tokens.otp.find_hotp_counted
-	movl %eax, %ecx
-	movl $8, %eax
-	cmpb $1, %cl
-	jne .LBB79_5
-	movq 672(%rsp), %rax
-	movq %rdx, (%rax)
-	xorl %eax, %eax
-.LBB79_5:
-	movaps 512(%rsp), %xmm6
-	addq $536, %rsp
+.LBB79_7:
+	addq $520, %rsp
 	popq %rbx
 	popq %rbp
 	popq %rdi
@@ -31226,6 +31239,45 @@ v2_yz_hotp_find:
 	popq %r14
 	popq %r15
 	retq
+.LBB79_5:
+	movq 648(%rsp), %rbx
+	movb %bpl, %r14b
+	shll $12, %r14d
+	addq %r14, %r12
+	leaq 112(%rsp), %rdx
+	leaq 319(%rsp), %r14
+	movl $192, %r8d
+	movq %r14, %rcx
+	callq memcpy
+	leaq 111(%rsp), %r15
+	movl $192, %r8d
+	movq %r15, %rcx
+	movq %r14, %rdx
+	callq memcpy
+	leaq 304(%rsp), %r14
+	movl $192, %r8d
+	movq %r14, %rcx
+	movq %r15, %rdx
+	callq memcpy
+	xorps %xmm0, %xmm0
+	movaps %xmm0, 80(%rsp)
+	movaps %xmm0, 64(%rsp)
+	movq %r13, 48(%rsp)
+	movq %rbx, 40(%rsp)
+	movq %r12, 32(%rsp)
+	movq %r14, %rcx
+	movq %rdi, %rdx
+	movq 624(%rsp), %r8
+	movl %esi, %r9d
+	callq ring_tokens.otp.find_hotp_counted
+	movl %eax, %ecx
+	movl $8, %eax
+	cmpb $1, %cl
+	jne .LBB79_7
+	movq 656(%rsp), %rax
+	movq %rdx, (%rax)
+	xorl %eax, %eax
+	jmp .LBB79_7
 	.seh_endproc
 	.globl v2_yz_jws_sign
 	.p2align 4
@@ -33570,85 +33622,86 @@ v2_yz_totp_find:
 	.seh_pushreg %rbp
 	pushq %rbx
 	.seh_pushreg %rbx
-	subq $536, %rsp
-	.seh_stackalloc 536
-	movaps %xmm6, 512(%rsp)
-	.seh_savexmm %xmm6, 512
+	subq $520, %rsp
+	.seh_stackalloc 520
 	.seh_endprologue
 	movq %r8, %r10
 	movq %rdx, %r8
 	movl %ecx, %edx
-	movq 672(%rsp), %r14
+	movq 656(%rsp), %r14
 	xorl %ecx, %ecx
 	testq %r8, %r8
 	sete %r11b
-	xorl %r12d, %r12d
+	xorl %edi, %edi
 	testq %r14, %r14
-	sete %bpl
+	sete %bl
 	decl %edx
 	movl $1, %eax
 	cmpl $3, %edx
 	ja .LBB96_10
-	movq 664(%rsp), %rsi
+	movq 648(%rsp), %rsi
 	addq $-6, %rsi
 	movl $4, %eax
 	cmpq $2, %rsi
 	ja .LBB96_10
+	movl 624(%rsp), %ebp
 	movl $8, %eax
-	cmpl $0, 640(%rsp)
+	testl %ebp, %ebp
 	je .LBB96_10
-	movq %r9, 56(%rsp)
+	xorps %xmm0, %xmm0
+	movaps %xmm0, 80(%rsp)
+	movaps %xmm0, 64(%rsp)
+	movaps %xmm0, 288(%rsp)
+	movaps %xmm0, 272(%rsp)
+	movaps %xmm0, 256(%rsp)
+	movaps %xmm0, 240(%rsp)
+	movaps %xmm0, 224(%rsp)
+	movaps %xmm0, 208(%rsp)
+	movaps %xmm0, 192(%rsp)
+	movaps %xmm0, 176(%rsp)
+	movaps %xmm0, 160(%rsp)
+	movaps %xmm0, 144(%rsp)
+	movaps %xmm0, 128(%rsp)
+	movaps %xmm0, 112(%rsp)
+	movaps %xmm0, 96(%rsp)
+	testq %r10, %r10
+	je .LBB96_10
+	movq %r9, %r13
 	movb %r11b, %cl
 	shll $12, %ecx
 	addq %rcx, %r8
-	xorps %xmm6, %xmm6
-	movaps %xmm6, 96(%rsp)
-	movaps %xmm6, 112(%rsp)
-	movaps %xmm6, 128(%rsp)
-	movaps %xmm6, 144(%rsp)
-	movaps %xmm6, 160(%rsp)
-	movaps %xmm6, 176(%rsp)
-	movaps %xmm6, 192(%rsp)
-	movaps %xmm6, 208(%rsp)
-	movaps %xmm6, 224(%rsp)
-	movaps %xmm6, 240(%rsp)
-	movaps %xmm6, 256(%rsp)
-	movaps %xmm6, 272(%rsp)
-	movaps %xmm6, 288(%rsp)
-	leaq 112(%rsp), %rbx
-	movaps %xmm6, 64(%rsp)
-	movaps %xmm6, 80(%rsp)
-	leaq 64(%rsp), %r13
-	movq %r13, 32(%rsp)
+	leaq 64(%rsp), %r15
+	movq %r15, 32(%rsp)
 	leaq 96(%rsp), %rcx
 	movq %r10, %r9
 	callq ring.hmac.key.Key.new_counted
-	leaq 320(%rsp), %rdi
-	movzbl 96(%rsp), %r15d
+	movl $8, %eax
+	cmpb $0, 96(%rsp)
+	jne .LBB96_10
+	movl 632(%rsp), %r12d
+	movb %bl, %dil
+	shll $12, %edi
+	addq %rdi, %r14
+	leaq 112(%rsp), %rdx
+	leaq 319(%rsp), %rdi
 	movl $192, %r8d
 	movq %rdi, %rcx
-	movq %rbx, %rdx
 	callq memcpy
-	testb %r15b, %r15b
-	je .LBB96_5
-	movl $8, %eax
-	jmp .LBB96_10
-.LBB96_5:
-	movq %r13, %r15
-	movq 680(%rsp), %r13
-	movl 648(%rsp), %ebx
-	movb %bpl, %r12b
-	shll $12, %r12d
-	addq %r12, %r14
-	leaq 96(%rsp), %rcx
+	leaq 111(%rsp), %rbx
 	movl $192, %r8d
+	movq %rbx, %rcx
 	movq %rdi, %rdx
 	callq memcpy
-	movaps %xmm6, 80(%rsp)
-	movaps %xmm6, 64(%rsp)
-	movl 640(%rsp), %ecx
-	movq 56(%rsp), %rax
-	movq %rax, %rdx
+	leaq 304(%rsp), %rcx
+	movl $192, %r8d
+	movq %rbx, %rdx
+	callq memcpy
+	xorps %xmm0, %xmm0
+	movaps %xmm0, 80(%rsp)
+	movaps %xmm0, 64(%rsp)
+	movl %ebp, %ecx
+	movq %r13, %rax
+	movq %r13, %rdx
 	shrq $32, %rdx
 	je .LBB96_6
 	xorl %edx, %edx
@@ -33658,30 +33711,30 @@ v2_yz_totp_find:
 	xorl %edx, %edx
 	divl %ecx
 .LBB96_8:
-	movl %ebx, %ecx
+	movl %r12d, %ecx
 	xorl %edx, %edx
 	movq %rax, %r8
 	subq %rcx, %r8
 	cmovaeq %r8, %rdx
-	movl 656(%rsp), %r8d
+	movl 640(%rsp), %r8d
 	addq %rax, %r8
 	subq %rdx, %r8
 	incq %r8
 	movq %r15, 48(%rsp)
-	movq %r13, 40(%rsp)
+	movq 664(%rsp), %rax
+	movq %rax, 40(%rsp)
 	movq %r14, 32(%rsp)
-	leaq 96(%rsp), %rcx
+	leaq 304(%rsp), %rcx
 	movl %esi, %r9d
 	callq ring_tokens.otp.find_hotp_counted
 	cmpb $1, %al
 	movl $8, %eax
 	jne .LBB96_10
-	movq 688(%rsp), %rax
+	movq 672(%rsp), %rax
 	movq %rdx, (%rax)
 	xorl %eax, %eax
 .LBB96_10:
-	movaps 512(%rsp), %xmm6
-	addq $536, %rsp
+	addq $520, %rsp
 	popq %rbx
 	popq %rbp
 	popq %rdi

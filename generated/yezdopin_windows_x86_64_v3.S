@@ -3,7 +3,7 @@
  *
  * Written by `make generated` from the proved crate ring_c: do not edit.
  * Kit: rattle-kit-13f logic dac8208d650f15bf
- * Git trees: ring_core 7a6ce8b95ca5 ring 5cf04eb94b58 ring_text 0361677f0770 ring_password_hash 26d5cc0d172a ring_merkle d709947fc126 ring_tokens 99dce6796cbf ring_c 5e258e52a893
+ * Git trees: ring_core e6bfe50c5c8a ring 88418d4ab500 ring_text 0361677f0770 ring_password_hash 26d5cc0d172a ring_merkle c37f6b491030 ring_tokens 64cccb9d4d98 ring_c 0744174b059e
  */
 
 #if defined(__x86_64__) && defined(_WIN32)
@@ -15425,8 +15425,8 @@ ring_c.otp.write:
 	.seh_pushreg %rbp
 	pushq %rbx
 	.seh_pushreg %rbx
-	subq $760, %rsp
-	.seh_stackalloc 760
+	subq $888, %rsp
+	.seh_stackalloc 888
 	.seh_endprologue
 	movq %r8, %r10
 	movq %rdx, %r8
@@ -15434,98 +15434,125 @@ ring_c.otp.write:
 	decl %edx
 	movl $1, %eax
 	cmpl $3, %edx
-	ja .LBB19_11
-	movq 864(%rsp), %rsi
+	ja .LBB19_14
+	movq 992(%rsp), %rsi
 	leaq -6(%rsi), %rcx
 	movl $4, %eax
 	cmpq $3, %rcx
-	jae .LBB19_11
+	jae .LBB19_14
 	movl $8, %eax
 	cmpb $1, %r9b
-	jne .LBB19_11
+	jne .LBB19_14
 	vxorps %xmm0, %xmm0, %xmm0
-	vmovups %ymm0, 128(%rsp)
-	vmovups %ymm0, 160(%rsp)
-	vmovups %ymm0, 192(%rsp)
-	vmovups %ymm0, 224(%rsp)
-	vmovups %ymm0, 256(%rsp)
-	vmovups %ymm0, 288(%rsp)
-	vmovups %ymm0, 304(%rsp)
 	vmovups %ymm0, 48(%rsp)
-	leaq 48(%rsp), %rax
-	movq %rax, 32(%rsp)
-	leaq 128(%rsp), %rcx
+	vmovups %ymm0, 80(%rsp)
+	vmovups %ymm0, 112(%rsp)
+	vmovups %ymm0, 144(%rsp)
+	vmovups %ymm0, 176(%rsp)
+	vmovups %ymm0, 208(%rsp)
+	vmovups %ymm0, 223(%rsp)
+	vmovups %ymm0, 464(%rsp)
+	vmovups %ymm0, 432(%rsp)
+	vmovups %ymm0, 416(%rsp)
+	vmovups %ymm0, 384(%rsp)
+	vmovups %ymm0, 352(%rsp)
+	vmovups %ymm0, 320(%rsp)
+	vmovups %ymm0, 288(%rsp)
+	vmovups %ymm0, 256(%rsp)
+	testq %r10, %r10
+	je .LBB19_4
+	leaq 464(%rsp), %rdi
+	movq %rdi, 32(%rsp)
+	leaq 256(%rsp), %rcx
 	movq %r10, %r9
 	vzeroupper
 	callq ring.hmac.key.Key.new_counted
-	movl $8, %eax
-	vmovups 144(%rsp), %ymm0
-	vmovups 176(%rsp), %ymm1
-	vmovups 208(%rsp), %ymm2
-	vmovups 240(%rsp), %ymm3
-	vmovups %ymm0, 336(%rsp)
-	vmovups %ymm1, 368(%rsp)
-	vmovups %ymm2, 400(%rsp)
-	vmovups %ymm3, 432(%rsp)
-	vmovups 272(%rsp), %ymm0
-	vmovups %ymm0, 464(%rsp)
-	vmovups 304(%rsp), %ymm0
-	vmovups %ymm0, 496(%rsp)
-	cmpb $0, 128(%rsp)
-	jne .LBB19_11
-	movq 848(%rsp), %rax
-	vmovups 496(%rsp), %ymm0
-	vmovups %ymm0, 720(%rsp)
-	vmovups 464(%rsp), %ymm0
-	vmovups %ymm0, 688(%rsp)
-	vmovups 336(%rsp), %ymm0
-	vmovups 368(%rsp), %ymm1
-	vmovups 400(%rsp), %ymm2
-	vmovups 432(%rsp), %ymm3
-	vmovups %ymm3, 656(%rsp)
-	vmovups %ymm2, 624(%rsp)
-	vmovups %ymm1, 592(%rsp)
-	vmovups %ymm0, 560(%rsp)
+	cmpb $0, 256(%rsp)
+	je .LBB19_7
 	vxorps %xmm0, %xmm0, %xmm0
-	vmovups %ymm0, 528(%rsp)
-	vmovups %ymm0, 128(%rsp)
-	vmovups %ymm0, 160(%rsp)
-	movw $0, 192(%rsp)
+	vmovups %ymm0, 223(%rsp)
+	vmovups %ymm0, 191(%rsp)
+	vmovups %ymm0, 159(%rsp)
+	vmovups %ymm0, 127(%rsp)
+	vmovups %ymm0, 95(%rsp)
+	vmovups %ymm0, 63(%rsp)
+	movl $8, %eax
+	jmp .LBB19_14
+.LBB19_4:
+	vmovups %ymm0, 223(%rsp)
+	vmovups %ymm0, 191(%rsp)
+	vmovups %ymm0, 159(%rsp)
+	vmovups %ymm0, 127(%rsp)
+	vmovups %ymm0, 95(%rsp)
+	vmovups %ymm0, 63(%rsp)
+	jmp .LBB19_14
+.LBB19_7:
+	vmovups 432(%rsp), %ymm0
+	vmovups %ymm0, 223(%rsp)
+	vmovups 400(%rsp), %ymm1
+	vmovups %ymm1, 191(%rsp)
+	vmovups 272(%rsp), %ymm2
+	vmovups 304(%rsp), %ymm3
+	vmovups 336(%rsp), %ymm4
+	vmovups 368(%rsp), %ymm5
+	vmovups %ymm2, 496(%rsp)
+	vmovups %ymm3, 528(%rsp)
+	vmovups %ymm4, 560(%rsp)
+	vmovups %ymm5, 592(%rsp)
+	vmovups %ymm1, 624(%rsp)
+	vmovups %ymm0, 656(%rsp)
+	vmovups 656(%rsp), %ymm0
+	vmovups %ymm0, 848(%rsp)
+	vmovups 624(%rsp), %ymm0
+	vmovups %ymm0, 816(%rsp)
+	vmovups 496(%rsp), %ymm0
+	vmovups 528(%rsp), %ymm1
+	vmovups 560(%rsp), %ymm2
+	vmovups 592(%rsp), %ymm3
+	vmovups %ymm3, 784(%rsp)
+	vmovups %ymm2, 752(%rsp)
+	vmovups %ymm1, 720(%rsp)
+	vmovups %ymm0, 688(%rsp)
+	movq 976(%rsp), %rax
+	vxorps %xmm0, %xmm0, %xmm0
+	vmovups %ymm0, 464(%rsp)
+	vmovups %ymm0, 256(%rsp)
+	vmovups %ymm0, 288(%rsp)
+	movw $0, 320(%rsp)
 	movbeq %rax, 40(%rsp)
-	leaq 528(%rsp), %rax
-	movq %rax, 32(%rsp)
-	leaq 128(%rsp), %rdi
-	leaq 560(%rsp), %rdx
+	movq %rdi, 32(%rsp)
+	leaq 256(%rsp), %rdi
+	leaq 688(%rsp), %rdx
 	leaq 40(%rsp), %r8
 	movl $8, %r9d
 	movq %rdi, %rcx
 	vzeroupper
 	callq ring.hmac.sign_counted
-	cmpb $0, 128(%rsp)
-	jne .LBB19_12
-	movq 856(%rsp), %rcx
-	vmovups 161(%rsp), %ymm0
+	cmpb $0, 256(%rsp)
+	jne .LBB19_15
+	movq 984(%rsp), %rcx
+	vmovups 289(%rsp), %ymm0
 	vmovups %ymm0, 80(%rsp)
-	vmovups 129(%rsp), %ymm0
+	vmovups 257(%rsp), %ymm0
 	vmovups %ymm0, 48(%rsp)
-	movzbl 193(%rsp), %eax
+	movzbl 321(%rsp), %eax
 	movb %al, 112(%rsp)
 	leaq .LJTI19_0(%rip), %rdx
 	movslq (%rdx,%rax,4), %rax
 	addq %rdx, %rax
 	jmpq *%rax
-.LBB19_7:
-	leaq 80(%rsp), %rax
-	jmp .LBB19_10
-.LBB19_9:
-	leaq 112(%rsp), %rax
-	jmp .LBB19_10
-.LBB19_6:
-	leaq 68(%rsp), %rax
-	jmp .LBB19_10
-.LBB19_8:
-	leaq 96(%rsp), %rax
 .LBB19_10:
+	leaq 80(%rsp), %rax
+	jmp .LBB19_13
+.LBB19_12:
+	leaq 112(%rsp), %rax
+	jmp .LBB19_13
+.LBB19_9:
+	leaq 68(%rsp), %rax
+	jmp .LBB19_13
+.LBB19_11:
+	leaq 96(%rsp), %rax
+.LBB19_13:
 	movzbl -1(%rax), %edx
 	andl $15, %edx
 	leaq .Lswitch.table.ring_tokens.otp.find_hotp_counted(%rip), %r8
@@ -15606,7 +15633,7 @@ ring_c.otp.write:
 	shll $8, %edx
 	orq %r9, %rdx
 	orq %rax, %rdx
-	movq %rdx, 128(%rsp)
+	movq %rdx, 256(%rsp)
 	subq %rsi, %rdi
 	addq $8, %rdi
 	movq %rdi, %rdx
@@ -15614,9 +15641,9 @@ ring_c.otp.write:
 	vzeroupper
 	callq memcpy
 	xorl %eax, %eax
-.LBB19_11:
+.LBB19_14:
 	vzeroupper
-	addq $760, %rsp
+	addq $888, %rsp
 	popq %rbx
 	popq %rbp
 	popq %rdi
@@ -15624,16 +15651,16 @@ ring_c.otp.write:
 	popq %r14
 	popq %r15
 	retq
-.LBB19_12:
+.LBB19_15:
 	ud2
 	.section .rdata,"dr"
 	.p2align 2, 0x0
 .LJTI19_0:
-	.long .LBB19_6-.LJTI19_0
-	.long .LBB19_7-.LJTI19_0
-	.long .LBB19_8-.LJTI19_0
 	.long .LBB19_9-.LJTI19_0
-	.long .LBB19_7-.LJTI19_0
+	.long .LBB19_10-.LJTI19_0
+	.long .LBB19_11-.LJTI19_0
+	.long .LBB19_12-.LJTI19_0
+	.long .LBB19_10-.LJTI19_0
 	.text
 	.seh_endproc
 	.p2align 4
@@ -44763,80 +44790,36 @@ v3_yz_hotp_find:
 	decl %edx
 	movl $1, %eax
 	cmpl $3, %edx
-	ja .LBB89_5
+	ja .LBB89_7
 	movq 616(%rsp), %rsi
 	addq $-6, %rsi
 	movl $4, %eax
 	cmpq $2, %rsi
-	ja .LBB89_5
+	ja .LBB89_7
+	vxorps %xmm0, %xmm0, %xmm0
+	vmovups %ymm0, 272(%rsp)
+	vmovups %ymm0, 240(%rsp)
+	vmovups %ymm0, 224(%rsp)
+	vmovups %ymm0, 192(%rsp)
+	vmovups %ymm0, 160(%rsp)
+	vmovups %ymm0, 128(%rsp)
+	vmovups %ymm0, 96(%rsp)
+	vmovups %ymm0, 64(%rsp)
+	testq %r9, %r9
+	je .LBB89_4
 	movb %r10b, %cl
 	shll $12, %ecx
 	addq %rcx, %r8
-	vxorps %xmm0, %xmm0, %xmm0
-	vmovups %ymm0, 64(%rsp)
-	vmovups %ymm0, 96(%rsp)
-	vmovups %ymm0, 128(%rsp)
-	vmovups %ymm0, 160(%rsp)
-	vmovups %ymm0, 192(%rsp)
-	vmovups %ymm0, 224(%rsp)
-	vmovups %ymm0, 240(%rsp)
-	vmovups %ymm0, 272(%rsp)
 	leaq 272(%rsp), %r15
 	movq %r15, 32(%rsp)
 	leaq 64(%rsp), %rcx
 	vzeroupper
 	callq ring.hmac.key.Key.new_counted
-	vmovups 80(%rsp), %ymm0
-	vmovups 112(%rsp), %ymm1
-	vmovups 144(%rsp), %ymm2
-	vmovups 176(%rsp), %ymm3
-	vmovups %ymm0, 328(%rsp)
-	vmovups %ymm1, 360(%rsp)
-	vmovups %ymm2, 392(%rsp)
-	vmovups %ymm3, 424(%rsp)
-	vmovups 208(%rsp), %ymm0
-	vmovups %ymm0, 456(%rsp)
-	vmovups 240(%rsp), %ymm0
-	vmovups %ymm0, 488(%rsp)
 	cmpb $0, 64(%rsp)
+	je .LBB89_5
+.LBB89_4:
 	movl $8, %eax
-	jne .LBB89_5
-	movq 632(%rsp), %rax
-	movq 608(%rsp), %r8
-	movb %bpl, %r14b
-	shll $12, %r14d
-	addq %r14, %rbx
-	leaq 328(%rsp), %rcx
-	vmovups 160(%rcx), %ymm0
-	vmovups %ymm0, 224(%rsp)
-	vmovups 128(%rcx), %ymm0
-	vmovups %ymm0, 192(%rsp)
-	vmovups (%rcx), %ymm0
-	vmovups 32(%rcx), %ymm1
-	vmovups 64(%rcx), %ymm2
-	vmovups 96(%rcx), %ymm3
-	vmovups %ymm3, 160(%rsp)
-	vmovups %ymm2, 128(%rsp)
-	vmovups %ymm1, 96(%rsp)
-	vmovups %ymm0, 64(%rsp)
-	vxorps %xmm0, %xmm0, %xmm0
-	vmovups %ymm0, 272(%rsp)
-	movq %r15, 48(%rsp)
-	movq %rax, 40(%rsp)
-	movq %rbx, 32(%rsp)
-	leaq 64(%rsp), %rcx
-	movq %rdi, %rdx
-	movl %esi, %r9d
-	vzeroupper
-	callq ring_tokens.otp.find_hotp_counted
-	movl %eax, %ecx
-	movl $8, %eax
-	cmpb $1, %cl
-	jne .LBB89_5
-	movq 640(%rsp), %rax
-	movq %rdx, (%rax)
-	xorl %eax, %eax
-.LBB89_5:
+.LBB89_7:
 	vzeroupper
 	addq $520, %rsp
 	popq %rbx
@@ -44846,6 +44829,56 @@ v3_yz_hotp_find:
 	popq %r14
 	popq %r15
 	retq
+.LBB89_5:
+	vmovups 240(%rsp), %ymm0
+	vmovups %ymm0, 479(%rsp)
+	movq 632(%rsp), %rax
+	vmovups 208(%rsp), %ymm1
+	vmovups %ymm1, 447(%rsp)
+	vmovups 80(%rsp), %ymm2
+	vmovups 112(%rsp), %ymm3
+	vmovups 144(%rsp), %ymm4
+	vmovups 176(%rsp), %ymm5
+	vmovups %ymm2, 79(%rsp)
+	vmovups %ymm3, 111(%rsp)
+	vmovups %ymm4, 143(%rsp)
+	vmovups %ymm5, 175(%rsp)
+	vmovups %ymm1, 207(%rsp)
+	vmovups %ymm0, 239(%rsp)
+	movq 608(%rsp), %r8
+	movb %bpl, %r14b
+	vmovups 239(%rsp), %ymm0
+	vmovups %ymm0, 464(%rsp)
+	shll $12, %r14d
+	vmovups 207(%rsp), %ymm0
+	vmovups %ymm0, 432(%rsp)
+	vmovups 79(%rsp), %ymm0
+	vmovups 111(%rsp), %ymm1
+	vmovups 143(%rsp), %ymm2
+	vmovups 175(%rsp), %ymm3
+	vmovups %ymm3, 400(%rsp)
+	vmovups %ymm2, 368(%rsp)
+	vmovups %ymm1, 336(%rsp)
+	vmovups %ymm0, 304(%rsp)
+	addq %r14, %rbx
+	vxorps %xmm0, %xmm0, %xmm0
+	vmovups %ymm0, 272(%rsp)
+	movq %r15, 48(%rsp)
+	movq %rax, 40(%rsp)
+	movq %rbx, 32(%rsp)
+	leaq 304(%rsp), %rcx
+	movq %rdi, %rdx
+	movl %esi, %r9d
+	vzeroupper
+	callq ring_tokens.otp.find_hotp_counted
+	movl %eax, %ecx
+	movl $8, %eax
+	cmpb $1, %cl
+	jne .LBB89_7
+	movq 640(%rsp), %rax
+	movq %rdx, (%rax)
+	xorl %eax, %eax
+	jmp .LBB89_7
 	.seh_endproc
 	.globl v3_yz_jws_sign
 	.p2align 4
@@ -47911,61 +47944,62 @@ v3_yz_totp_find:
 	movl $8, %eax
 	testl %ebp, %ebp
 	je .LBB103_10
+	vxorps %xmm0, %xmm0, %xmm0
+	vmovups %ymm0, 272(%rsp)
+	vmovups %ymm0, 240(%rsp)
+	vmovups %ymm0, 224(%rsp)
+	vmovups %ymm0, 192(%rsp)
+	vmovups %ymm0, 160(%rsp)
+	vmovups %ymm0, 128(%rsp)
+	vmovups %ymm0, 96(%rsp)
+	vmovups %ymm0, 64(%rsp)
+	testq %r10, %r10
+	je .LBB103_10
 	movq %r9, %r15
 	movb %r11b, %cl
 	shll $12, %ecx
 	addq %rcx, %r8
-	vxorps %xmm0, %xmm0, %xmm0
-	vmovups %ymm0, 64(%rsp)
-	vmovups %ymm0, 96(%rsp)
-	vmovups %ymm0, 128(%rsp)
-	vmovups %ymm0, 160(%rsp)
-	vmovups %ymm0, 192(%rsp)
-	vmovups %ymm0, 224(%rsp)
-	vmovups %ymm0, 240(%rsp)
-	vmovups %ymm0, 272(%rsp)
 	leaq 272(%rsp), %rbx
 	movq %rbx, 32(%rsp)
 	leaq 64(%rsp), %rcx
 	movq %r10, %r9
 	vzeroupper
 	callq ring.hmac.key.Key.new_counted
-	vmovups 80(%rsp), %ymm0
-	vmovups 112(%rsp), %ymm1
-	vmovups 144(%rsp), %ymm2
-	vmovups 176(%rsp), %ymm3
-	vmovups %ymm0, 320(%rsp)
-	vmovups %ymm1, 352(%rsp)
-	vmovups %ymm2, 384(%rsp)
-	vmovups %ymm3, 416(%rsp)
-	vmovups 208(%rsp), %ymm0
-	vmovups %ymm0, 448(%rsp)
-	vmovups 240(%rsp), %ymm0
-	vmovups %ymm0, 480(%rsp)
-	cmpb $0, 64(%rsp)
-	je .LBB103_5
 	movl $8, %eax
-	jmp .LBB103_10
-.LBB103_5:
+	cmpb $0, 64(%rsp)
+	jne .LBB103_10
 	movq 648(%rsp), %rcx
 	movl 624(%rsp), %r8d
-	movb %r12b, %r14b
-	shll $12, %r14d
-	addq %r14, %rdi
-	leaq 320(%rsp), %rax
-	vmovups 160(%rax), %ymm0
-	vmovups %ymm0, 224(%rsp)
 	movl 616(%rsp), %r9d
-	vmovups 128(%rax), %ymm0
-	vmovups %ymm0, 192(%rsp)
-	vmovups (%rax), %ymm0
-	vmovups 32(%rax), %ymm1
-	vmovups 64(%rax), %ymm2
-	vmovups 96(%rax), %ymm3
-	vmovups %ymm3, 160(%rsp)
-	vmovups %ymm2, 128(%rsp)
-	vmovups %ymm1, 96(%rsp)
-	vmovups %ymm0, 64(%rsp)
+	movb %r12b, %r14b
+	vmovups 240(%rsp), %ymm0
+	vmovups %ymm0, 479(%rsp)
+	shll $12, %r14d
+	vmovups 208(%rsp), %ymm1
+	vmovups %ymm1, 447(%rsp)
+	vmovups 80(%rsp), %ymm2
+	vmovups 112(%rsp), %ymm3
+	vmovups 144(%rsp), %ymm4
+	vmovups 176(%rsp), %ymm5
+	vmovups %ymm2, 79(%rsp)
+	vmovups %ymm3, 111(%rsp)
+	vmovups %ymm4, 143(%rsp)
+	vmovups %ymm5, 175(%rsp)
+	vmovups %ymm1, 207(%rsp)
+	vmovups %ymm0, 239(%rsp)
+	addq %r14, %rdi
+	vmovups 239(%rsp), %ymm0
+	vmovups %ymm0, 464(%rsp)
+	vmovups 207(%rsp), %ymm0
+	vmovups %ymm0, 432(%rsp)
+	vmovups 111(%rsp), %ymm0
+	vmovups 143(%rsp), %ymm1
+	vmovups 175(%rsp), %ymm2
+	vmovups %ymm2, 400(%rsp)
+	vmovups %ymm1, 368(%rsp)
+	vmovups %ymm0, 336(%rsp)
+	vmovups 79(%rsp), %ymm0
+	vmovups %ymm0, 304(%rsp)
 	vxorps %xmm0, %xmm0, %xmm0
 	vmovups %ymm0, 272(%rsp)
 	movl %ebp, %r10d
@@ -47992,7 +48026,7 @@ v3_yz_totp_find:
 	movq %rbx, 48(%rsp)
 	movq %rcx, 40(%rsp)
 	movq %rdi, 32(%rsp)
-	leaq 64(%rsp), %rcx
+	leaq 304(%rsp), %rcx
 	movl %esi, %r9d
 	vzeroupper
 	callq ring_tokens.otp.find_hotp_counted

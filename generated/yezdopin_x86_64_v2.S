@@ -3,7 +3,7 @@
  *
  * Written by `make generated` from the proved crate ring_c: do not edit.
  * Kit: rattle-kit-13f logic dac8208d650f15bf
- * Git trees: ring_core 7a6ce8b95ca5 ring 5cf04eb94b58 ring_text 0361677f0770 ring_password_hash 26d5cc0d172a ring_merkle d709947fc126 ring_tokens 99dce6796cbf ring_c 5e258e52a893
+ * Git trees: ring_core e6bfe50c5c8a ring 88418d4ab500 ring_text 0361677f0770 ring_password_hash 26d5cc0d172a ring_merkle c37f6b491030 ring_tokens 64cccb9d4d98 ring_c 0744174b059e
  * Instructions: put in the place of proved functions by instructions.py, git blob 09be9d4b006d
  */
 
@@ -11996,24 +11996,30 @@ ring_c.otp.write:
 	push %rbp
 	push %r15
 	push %r14
+	push %r13
 	push %r12
 	push %rbx
-	sub $0x2d0,%rsp
+	sub $0x358,%rsp
 	dec %edi
 	mov $0x1,%eax
 	cmp $0x3,%edi
-	ja L(39_5)
+	ja L(39_7)
 	mov %rdx,%r10
 	mov %rsi,%rdx
-	mov 0x300(%rsp),%rbx
+	mov 0x390(%rsp),%rbx
 	lea -0x6(%rbx),%rsi
 	mov $0x4,%eax
 	cmp $0x3,%rsi
-	jae L(39_5)
+	jae L(39_7)
 	mov $0x8,%eax
 	cmp $0x1,%cl
-	jne L(39_5)
+	jne L(39_7)
 	xorps %xmm0,%xmm0
+	movaps %xmm0,0x10(%rsp)
+	movaps %xmm0,0x20(%rsp)
+	movaps %xmm0,0x30(%rsp)
+	movaps %xmm0,0x40(%rsp)
+	movaps %xmm0,0x50(%rsp)
 	movaps %xmm0,0x60(%rsp)
 	movaps %xmm0,0x70(%rsp)
 	movaps %xmm0,0x80(%rsp)
@@ -12021,84 +12027,124 @@ ring_c.otp.write:
 	movaps %xmm0,0xa0(%rsp)
 	movaps %xmm0,0xb0(%rsp)
 	movaps %xmm0,0xc0(%rsp)
-	movaps %xmm0,0xd0(%rsp)
+	movups %xmm0,0xcf(%rsp)
 	movaps %xmm0,0xe0(%rsp)
 	movaps %xmm0,0xf0(%rsp)
+	movaps %xmm0,0x1c0(%rsp)
+	movaps %xmm0,0x1b0(%rsp)
+	movaps %xmm0,0x1a0(%rsp)
+	movaps %xmm0,0x190(%rsp)
+	movaps %xmm0,0x180(%rsp)
+	movaps %xmm0,0x170(%rsp)
+	movaps %xmm0,0x160(%rsp)
+	movaps %xmm0,0x150(%rsp)
+	movaps %xmm0,0x140(%rsp)
+	movaps %xmm0,0x130(%rsp)
+	movaps %xmm0,0x120(%rsp)
+	movaps %xmm0,0x110(%rsp)
+	movaps %xmm0,0x100(%rsp)
+	test %r10,%r10
+	je L(39_0)
+	mov %r8,%rbp
+	mov %r9,%r13
+	movzbl %dil,%esi
+	lea 0x100(%rsp),%rdi
+	lea 0xe0(%rsp),%r8
+	mov %r10,%rcx
+	call ring.hmac.key.Key.new_counted
+	cmpb $0x0,0x100(%rsp)
+	je L(39_1)
+	xorps %xmm0,%xmm0
+	movups %xmm0,0xcf(%rsp)
+	movups %xmm0,0xbf(%rsp)
+	movups %xmm0,0xaf(%rsp)
+	movups %xmm0,0x9f(%rsp)
+	movups %xmm0,0x8f(%rsp)
+	movups %xmm0,0x7f(%rsp)
+	movups %xmm0,0x6f(%rsp)
+	movups %xmm0,0x5f(%rsp)
+	movups %xmm0,0x4f(%rsp)
+	movups %xmm0,0x3f(%rsp)
+	movups %xmm0,0x2f(%rsp)
+	movups %xmm0,0x1f(%rsp)
+	mov $0x8,%eax
+	jmp L(39_7)
+L(39_0):
+	movups %xmm0,0xcf(%rsp)
+	movups %xmm0,0xbf(%rsp)
+	movups %xmm0,0xaf(%rsp)
+	movups %xmm0,0x9f(%rsp)
+	movups %xmm0,0x8f(%rsp)
+	movups %xmm0,0x7f(%rsp)
+	movups %xmm0,0x6f(%rsp)
+	movups %xmm0,0x5f(%rsp)
+	movups %xmm0,0x4f(%rsp)
+	movups %xmm0,0x3f(%rsp)
+	movups %xmm0,0x2f(%rsp)
+	movups %xmm0,0x1f(%rsp)
+	jmp L(39_7)
+L(39_1):
+	lea 0x110(%rsp),%rsi
+	lea 0x1f(%rsp),%r14
+	mov $0xc0,%edx
+	mov %r14,%rdi
+	call memcpy
+	lea 0x298(%rsp),%r15
+	mov $0xc0,%edx
+	mov %r15,%rdi
+	mov %r14,%rsi
+	call memcpy
+	lea 0x1d0(%rsp),%r12
+	mov $0xc0,%edx
+	mov %r12,%rdi
+	mov %r15,%rsi
+	call memcpy
+	xorps %xmm0,%xmm0
+	movaps %xmm0,0xf0(%rsp)
+	movaps %xmm0,0xe0(%rsp)
 	movaps %xmm0,0x100(%rsp)
 	movaps %xmm0,0x110(%rsp)
 	movaps %xmm0,0x120(%rsp)
-	lea 0x70(%rsp),%r14
-	movaps %xmm0,0x10(%rsp)
-	movaps %xmm0,0x20(%rsp)
-	movzbl %dil,%esi
-	lea 0x60(%rsp),%rdi
-	lea 0x10(%rsp),%rax
-	mov %r10,%rcx
-	mov %r8,%r15
-	mov %rax,%r8
-	mov %r9,%r12
-	call ring.hmac.key.Key.new_counted
-	movzbl 0x60(%rsp),%ebp
-	lea 0x150(%rsp),%rdi
-	mov $0xc0,%edx
-	mov %r14,%rsi
-	call memcpy
-	mov $0x8,%eax
-	test %bpl,%bpl
-	jne L(39_5)
-	mov %r15,%rcx
-	lea 0x210(%rsp),%r15
-	lea 0x150(%rsp),%rsi
-	mov $0xc0,%edx
-	mov %r15,%rdi
-	mov %rcx,%r14
-	call memcpy
-	xorps %xmm0,%xmm0
-	movaps %xmm0,0x140(%rsp)
 	movaps %xmm0,0x130(%rsp)
-	movaps %xmm0,0x60(%rsp)
-	movaps %xmm0,0x70(%rsp)
-	movaps %xmm0,0x80(%rsp)
-	movaps %xmm0,0x90(%rsp)
-	movw $0x0,0xa0(%rsp)
-	bswap %r14
-	mov %r14,0x8(%rsp)
-	lea 0x60(%rsp),%r14
+	movw $0x0,0x140(%rsp)
+	bswap %rbp
+	mov %rbp,0x8(%rsp)
+	lea 0x100(%rsp),%r14
 	lea 0x8(%rsp),%rdx
-	lea 0x130(%rsp),%r8
+	lea 0xe0(%rsp),%r8
 	mov $0x8,%ecx
 	mov %r14,%rdi
-	mov %r15,%rsi
+	mov %r12,%rsi
 	call ring.hmac.sign_counted
-	cmpb $0x0,0x60(%rsp)
-	jne L(39_6)
-	movups 0x61(%rsp),%xmm0
-	movups 0x71(%rsp),%xmm1
-	movups 0x81(%rsp),%xmm2
-	movups 0x91(%rsp),%xmm3
+	cmpb $0x0,0x100(%rsp)
+	jne L(39_8)
+	movups 0x101(%rsp),%xmm0
+	movups 0x111(%rsp),%xmm1
+	movups 0x121(%rsp),%xmm2
+	movups 0x131(%rsp),%xmm3
 	movaps %xmm3,0x40(%rsp)
 	movaps %xmm2,0x30(%rsp)
 	movaps %xmm1,0x20(%rsp)
 	movaps %xmm0,0x10(%rsp)
-	movzbl 0xa1(%rsp),%eax
+	movzbl 0x141(%rsp),%eax
 	mov %al,0x50(%rsp)
 	lea L(194_0)(%rip),%rcx
 	movslq (%rcx,%rax,4),%rax
 	add %rcx,%rax
+	mov %r13,%rdi
 	jmp *%rax
-L(39_0):
-	lea 0x30(%rsp),%rax
-	jmp L(39_4)
-L(39_1):
-	lea 0x50(%rsp),%rax
-	jmp L(39_4)
 L(39_2):
-	lea 0x24(%rsp),%rax
-	jmp L(39_4)
+	lea 0x30(%rsp),%rax
+	jmp L(39_6)
 L(39_3):
-	lea 0x40(%rsp),%rax
+	lea 0x50(%rsp),%rax
+	jmp L(39_6)
 L(39_4):
-	mov %r12,%rdi
+	lea 0x24(%rsp),%rax
+	jmp L(39_6)
+L(39_5):
+	lea 0x40(%rsp),%rax
+L(39_6):
 	movzbl -0x1(%rax),%ecx
 	and $0xf,%ecx
 	lea L(switch.table.ring_tokens.otp.find_hotp_counted)(%rip),%rsi
@@ -12179,24 +12225,25 @@ L(39_4):
 	shl $0x8,%ecx
 	or %rsi,%rcx
 	or %rax,%rcx
-	mov %rcx,0x60(%rsp)
+	mov %rcx,0x100(%rsp)
 	sub %rbx,%r14
 	add $0x8,%r14
 	mov %r14,%rsi
 	mov %rbx,%rdx
 	call memcpy
 	xor %eax,%eax
-L(39_5):
-	add $0x2d0,%rsp
+L(39_7):
+	add $0x358,%rsp
 	pop %rbx
 	pop %r12
+	pop %r13
 	pop %r14
 	pop %r15
 	pop %rbp
 	ret
-L(39_6):
+L(39_8):
 	ud2
-	SIZE(ring_c.otp.write, 881)
+	SIZE(ring_c.otp.write, 1189)
 
 	CODE(ring_tokens.otp.find_hotp_counted)
 	.p2align 4
@@ -27664,91 +27711,58 @@ v2_yz_hotp_find:
 	push %r13
 	push %r12
 	push %rbx
-	sub $0x1e8,%rsp
+	sub $0x1d8,%rsp
 	mov %rcx,%r15
 	mov %rdx,%rcx
 	mov %rsi,%rdx
-	mov %edi,%esi
-	mov 0x220(%rsp),%rbx
-	xor %edi,%edi
+	mov 0x210(%rsp),%rbx
+	xor %esi,%esi
 	test %rdx,%rdx
 	sete %r10b
-	xor %r14d,%r14d
+	xor %ebp,%ebp
 	test %rbx,%rbx
 	sete %r12b
-	dec %esi
+	dec %edi
 	mov $0x1,%eax
-	cmp $0x3,%esi
-	ja L(150_0)
+	cmp $0x3,%edi
+	ja L(150_1)
 	add $0xfffffffffffffffa,%r9
 	mov $0x4,%eax
 	cmp $0x2,%r9
-	ja L(150_0)
-	mov %r9,0x10(%rsp)
-	mov %r15,0x8(%rsp)
-	mov %r8,0x18(%rsp)
-	mov %r10b,%dil
-	shl $0xc,%edi
-	add %rdi,%rdx
+	ja L(150_1)
 	xorps %xmm0,%xmm0
-	movaps %xmm0,0x40(%rsp)
-	movaps %xmm0,0x50(%rsp)
-	movaps %xmm0,0x60(%rsp)
-	movaps %xmm0,0x70(%rsp)
-	movaps %xmm0,0x80(%rsp)
-	movaps %xmm0,0x90(%rsp)
-	movaps %xmm0,0xa0(%rsp)
-	movaps %xmm0,0xb0(%rsp)
-	movaps %xmm0,0xc0(%rsp)
-	movaps %xmm0,0xd0(%rsp)
-	movaps %xmm0,0xe0(%rsp)
+	movaps %xmm0,0x20(%rsp)
+	movaps %xmm0,0x10(%rsp)
 	movaps %xmm0,0xf0(%rsp)
-	movaps %xmm0,0x100(%rsp)
-	lea 0x50(%rsp),%rbp
-	movaps %xmm0,0x20(%rsp)
+	movaps %xmm0,0xe0(%rsp)
+	movaps %xmm0,0xd0(%rsp)
+	movaps %xmm0,0xc0(%rsp)
+	movaps %xmm0,0xb0(%rsp)
+	movaps %xmm0,0xa0(%rsp)
+	movaps %xmm0,0x90(%rsp)
+	movaps %xmm0,0x80(%rsp)
+	movaps %xmm0,0x70(%rsp)
+	movaps %xmm0,0x60(%rsp)
+	movaps %xmm0,0x50(%rsp)
+	movaps %xmm0,0x40(%rsp)
 	movaps %xmm0,0x30(%rsp)
-	lea 0x40(%rsp),%rdi
-	lea 0x20(%rsp),%r8
+	test %rcx,%rcx
+	je L(150_0)
+	mov %r9,%r13
+	mov %r8,%r14
+	mov %r10b,%sil
+	shl $0xc,%esi
+	add %rsi,%rdx
+	movzbl %dil,%esi
+	lea 0x30(%rsp),%rdi
+	lea 0x10(%rsp),%r8
 	call ring.hmac.key.Key.new_counted
-	lea 0x128(%rsp),%r13
-	movzbl 0x40(%rsp),%r15d
-	mov $0xc0,%edx
-	mov %r13,%rdi
-	mov %rbp,%rsi
-	call memcpy
-	mov $0x8,%eax
-	test %r15b,%r15b
-	jne L(150_0)
-	mov 0x228(%rsp),%r15
-	mov %r12b,%r14b
-	shl $0xc,%r14d
-	add %r14,%rbx
-	lea 0x40(%rsp),%rbp
-	mov $0xc0,%edx
-	mov %rbp,%rdi
-	mov %r13,%rsi
-	call memcpy
-	xorps %xmm0,%xmm0
-	movaps %xmm0,0x30(%rsp)
-	movaps %xmm0,0x20(%rsp)
-	lea 0x20(%rsp),%rax
-	mov %rax,(%rsp)
-	movzbl 0x10(%rsp),%ecx
-	mov %rbp,%rdi
-	mov 0x8(%rsp),%rsi
-	mov 0x18(%rsp),%rdx
-	mov %rbx,%r8
-	mov %r15,%r9
-	call ring_tokens.otp.find_hotp_counted
-	mov %eax,%ecx
-	mov $0x8,%eax
-	cmp $0x1,%cl
-	jne L(150_0)
-	mov 0x230(%rsp),%rax
-	mov %rdx,(%rax)
-	xor %eax,%eax
+	cmpb $0x0,0x30(%rsp)
+	je L(150_2)
 L(150_0):
-	add $0x1e8,%rsp
+	mov $0x8,%eax
+L(150_1):
+	add $0x1d8,%rsp
 	pop %rbx
 	pop %r12
 	pop %r13
@@ -27756,7 +27770,46 @@ L(150_0):
 	pop %r15
 	pop %rbp
 	ret
-	SIZE(v2_yz_hotp_find, 412)
+L(150_2):
+	mov %r12b,%bpl
+	shl $0xc,%ebp
+	add %rbp,%rbx
+	lea 0x40(%rsp),%rsi
+	lea 0x10f(%rsp),%rbp
+	mov $0xc0,%edx
+	mov %rbp,%rdi
+	call memcpy
+	lea 0x3f(%rsp),%r12
+	mov $0xc0,%edx
+	mov %r12,%rdi
+	mov %rbp,%rsi
+	call memcpy
+	lea 0x100(%rsp),%rbp
+	mov $0xc0,%edx
+	mov %rbp,%rdi
+	mov %r12,%rsi
+	call memcpy
+	xorps %xmm0,%xmm0
+	movaps %xmm0,0x20(%rsp)
+	movaps %xmm0,0x10(%rsp)
+	lea 0x10(%rsp),%rax
+	mov %rax,(%rsp)
+	movzbl %r13b,%ecx
+	mov %rbp,%rdi
+	mov %r15,%rsi
+	mov %r14,%rdx
+	mov %rbx,%r8
+	mov 0x218(%rsp),%r9
+	call ring_tokens.otp.find_hotp_counted
+	mov %eax,%ecx
+	mov $0x8,%eax
+	cmp $0x1,%cl
+	jne L(150_1)
+	mov 0x220(%rsp),%rax
+	mov %rdx,(%rax)
+	xor %eax,%eax
+	jmp L(150_1)
+	SIZE(v2_yz_hotp_find, 423)
 
 	CODE(yz_jws_sign)
 	.p2align 4
@@ -30121,105 +30174,109 @@ v2_yz_totp_find:
 	xor %esi,%esi
 	test %rdx,%rdx
 	sete %r11b
-	xor %r14d,%r14d
+	xor %r13d,%r13d
 	test %rbx,%rbx
-	sete %bpl
+	sete %r15b
 	dec %edi
 	mov $0x1,%eax
 	cmp $0x3,%edi
-	ja L(184_3)
-	mov 0x228(%rsp),%r13
-	add $0xfffffffffffffffa,%r13
+	ja L(184_2)
+	mov 0x228(%rsp),%rbp
+	add $0xfffffffffffffffa,%rbp
 	mov $0x4,%eax
-	cmp $0x2,%r13
-	ja L(184_3)
+	cmp $0x2,%rbp
+	ja L(184_2)
 	mov $0x8,%eax
 	test %r8d,%r8d
-	je L(184_3)
-	mov %r8d,0x14(%rsp)
+	je L(184_2)
 	mov %rcx,0x18(%rsp)
-	mov %r9d,0x10(%rsp)
+	mov %r9d,0x14(%rsp)
+	xorps %xmm0,%xmm0
+	movaps %xmm0,0x30(%rsp)
+	movaps %xmm0,0x20(%rsp)
+	movaps %xmm0,0x100(%rsp)
+	movaps %xmm0,0xf0(%rsp)
+	movaps %xmm0,0xe0(%rsp)
+	movaps %xmm0,0xd0(%rsp)
+	movaps %xmm0,0xc0(%rsp)
+	movaps %xmm0,0xb0(%rsp)
+	movaps %xmm0,0xa0(%rsp)
+	movaps %xmm0,0x90(%rsp)
+	movaps %xmm0,0x80(%rsp)
+	movaps %xmm0,0x70(%rsp)
+	movaps %xmm0,0x60(%rsp)
+	movaps %xmm0,0x50(%rsp)
+	movaps %xmm0,0x40(%rsp)
+	test %r10,%r10
+	je L(184_2)
+	mov %r8d,%r12d
 	mov %r11b,%sil
 	shl $0xc,%esi
 	add %rsi,%rdx
-	xorps %xmm0,%xmm0
-	movaps %xmm0,0x40(%rsp)
-	movaps %xmm0,0x50(%rsp)
-	movaps %xmm0,0x60(%rsp)
-	movaps %xmm0,0x70(%rsp)
-	movaps %xmm0,0x80(%rsp)
-	movaps %xmm0,0x90(%rsp)
-	movaps %xmm0,0xa0(%rsp)
-	movaps %xmm0,0xb0(%rsp)
-	movaps %xmm0,0xc0(%rsp)
-	movaps %xmm0,0xd0(%rsp)
-	movaps %xmm0,0xe0(%rsp)
-	movaps %xmm0,0xf0(%rsp)
-	movaps %xmm0,0x100(%rsp)
-	movaps %xmm0,0x20(%rsp)
-	movaps %xmm0,0x30(%rsp)
 	movzbl %dil,%esi
 	lea 0x40(%rsp),%rdi
-	lea 0x20(%rsp),%r12
+	lea 0x20(%rsp),%r14
 	mov %r10,%rcx
-	mov %r12,%r8
+	mov %r14,%r8
 	call ring.hmac.key.Key.new_counted
-	lea 0x128(%rsp),%rdi
-	movzbl 0x40(%rsp),%r15d
-	mov $0xc0,%edx
-	lea 0x50(%rsp),%rsi
-	call memcpy
-	test %r15b,%r15b
-	je L(184_0)
 	mov $0x8,%eax
-	jmp L(184_3)
-L(184_0):
-	mov 0x220(%rsp),%r15d
-	mov %bpl,%r14b
-	shl $0xc,%r14d
-	add %r14,%rbx
-	lea 0x40(%rsp),%rdi
+	cmpb $0x0,0x40(%rsp)
+	jne L(184_2)
+	mov %r15b,%r13b
+	shl $0xc,%r13d
+	add %r13,%rbx
+	lea 0x50(%rsp),%rsi
+	lea 0x11f(%rsp),%r15
 	mov $0xc0,%edx
-	lea 0x128(%rsp),%rsi
+	mov %r15,%rdi
+	call memcpy
+	lea 0x4f(%rsp),%r13
+	mov $0xc0,%edx
+	mov %r13,%rdi
+	mov %r15,%rsi
+	call memcpy
+	lea 0x110(%rsp),%rdi
+	mov $0xc0,%edx
+	mov %r13,%rsi
 	call memcpy
 	xorps %xmm0,%xmm0
 	movaps %xmm0,0x30(%rsp)
 	movaps %xmm0,0x20(%rsp)
-	mov 0x14(%rsp),%ecx
+	mov %r12d,%ecx
 	mov 0x18(%rsp),%rax
 	mov %rax,%rdx
 	shr $0x20,%rdx
-	je L(184_1)
+	je L(184_0)
 	xor %edx,%edx
 	div %rcx
-	jmp L(184_2)
-L(184_1):
+	jmp L(184_1)
+L(184_0):
 	xor %edx,%edx
 	div %ecx
-L(184_2):
-	mov 0x10(%rsp),%ecx
+L(184_1):
+	mov 0x14(%rsp),%ecx
 	mov %ecx,%ecx
 	xor %esi,%esi
 	mov %rax,%rdx
 	sub %rcx,%rdx
 	cmovae %rdx,%rsi
-	mov %r15d,%edx
+	mov 0x220(%rsp),%edx
 	add %rax,%rdx
 	sub %rsi,%rdx
 	inc %rdx
-	mov %r12,(%rsp)
-	movzbl %r13b,%ecx
-	lea 0x40(%rsp),%rdi
+	mov %r14,(%rsp)
+	movzbl %bpl,%ecx
+	lea 0x110(%rsp),%rdi
 	mov %rbx,%r8
 	mov 0x238(%rsp),%r9
 	call ring_tokens.otp.find_hotp_counted
 	cmp $0x1,%al
 	mov $0x8,%eax
-	jne L(184_3)
+	jne L(184_2)
 	mov 0x240(%rsp),%rax
 	mov %rdx,(%rax)
 	xor %eax,%eax
-L(184_3):
+L(184_2):
 	add $0x1e8,%rsp
 	pop %rbx
 	pop %r12
@@ -30228,7 +30285,7 @@ L(184_3):
 	pop %r15
 	pop %rbp
 	ret
-	SIZE(v2_yz_totp_find, 487)
+	SIZE(v2_yz_totp_find, 509)
 
 	CODE(yz_version)
 	.p2align 4
@@ -30899,11 +30956,11 @@ L(192_0):
 NAMED(ring_c.otp.write.tables)
 	.p2align 2
 L(194_0):
+	.long L(39_4)-L(194_0)
 	.long L(39_2)-L(194_0)
-	.long L(39_0)-L(194_0)
+	.long L(39_5)-L(194_0)
 	.long L(39_3)-L(194_0)
-	.long L(39_1)-L(194_0)
-	.long L(39_0)-L(194_0)
+	.long L(39_2)-L(194_0)
 
 	CONSTANTS(ring_tokens.otp.find_hotp_counted,"a",%progbits)
 NAMED(ring_tokens.otp.find_hotp_counted.tables)

@@ -3,7 +3,7 @@
  *
  * Written by `make generated` from the proved crate ring_c: do not edit.
  * Kit: rattle-kit-13f logic dac8208d650f15bf
- * Git trees: ring_core 7a6ce8b95ca5 ring 5cf04eb94b58 ring_text 0361677f0770 ring_password_hash 26d5cc0d172a ring_merkle d709947fc126 ring_tokens 99dce6796cbf ring_c 5e258e52a893
+ * Git trees: ring_core e6bfe50c5c8a ring 88418d4ab500 ring_text 0361677f0770 ring_password_hash 26d5cc0d172a ring_merkle c37f6b491030 ring_tokens 64cccb9d4d98 ring_c 0744174b059e
  */
 
 #if defined(__x86_64__) && defined(__LP64__) && (defined(__ELF__) || defined(__APPLE__))
@@ -15503,105 +15503,132 @@ ring_c.otp.write:
 	push %r15
 	push %r14
 	push %rbx
-	sub $0x2d0,%rsp
+	sub $0x350,%rsp
 	dec %edi
 	mov $0x1,%eax
 	cmp $0x3,%edi
-	ja L(42_5)
+	ja L(42_7)
 	mov %rdx,%r10
 	mov %rsi,%rdx
-	mov 0x2f0(%rsp),%rbx
+	mov 0x370(%rsp),%rbx
 	lea -0x6(%rbx),%rsi
 	mov $0x4,%eax
 	cmp $0x3,%rsi
-	jae L(42_5)
+	jae L(42_7)
 	mov $0x8,%eax
 	cmp $0x1,%cl
-	jne L(42_5)
+	jne L(42_7)
 	vxorps %xmm0,%xmm0,%xmm0
-	vmovups %ymm0,0x60(%rsp)
-	vmovups %ymm0,0x80(%rsp)
-	vmovups %ymm0,0xa0(%rsp)
-	vmovups %ymm0,0xc0(%rsp)
-	vmovups %ymm0,0xe0(%rsp)
-	vmovups %ymm0,0x100(%rsp)
-	vmovups %ymm0,0x110(%rsp)
 	vmovups %ymm0,0x10(%rsp)
-	movzbl %dil,%esi
-	lea 0x60(%rsp),%rdi
-	lea 0x10(%rsp),%rax
-	mov %r10,%rcx
+	vmovups %ymm0,0x30(%rsp)
+	vmovups %ymm0,0x50(%rsp)
+	vmovups %ymm0,0x70(%rsp)
+	vmovups %ymm0,0x90(%rsp)
+	vmovups %ymm0,0xb0(%rsp)
+	vmovups %ymm0,0xbf(%rsp)
+	vmovups %ymm0,0xe0(%rsp)
+	vmovups %ymm0,0x1b0(%rsp)
+	vmovups %ymm0,0x1a0(%rsp)
+	vmovups %ymm0,0x180(%rsp)
+	vmovups %ymm0,0x160(%rsp)
+	vmovups %ymm0,0x140(%rsp)
+	vmovups %ymm0,0x120(%rsp)
+	vmovups %ymm0,0x100(%rsp)
+	test %r10,%r10
+	je L(42_0)
 	mov %r8,%r14
-	mov %rax,%r8
 	mov %r9,%r15
+	movzbl %dil,%esi
+	lea 0x100(%rsp),%rdi
+	lea 0xe0(%rsp),%r8
+	mov %r10,%rcx
 	vzeroupper
 	call ring.hmac.key.Key.new_counted
-	mov $0x8,%eax
-	vmovups 0x70(%rsp),%ymm0
-	vmovups 0x90(%rsp),%ymm1
-	vmovups 0xb0(%rsp),%ymm2
-	vmovups 0xd0(%rsp),%ymm3
-	vmovups %ymm0,0x130(%rsp)
-	vmovups %ymm1,0x150(%rsp)
-	vmovups %ymm2,0x170(%rsp)
-	vmovups %ymm3,0x190(%rsp)
-	vmovups 0xf0(%rsp),%ymm0
-	vmovups %ymm0,0x1b0(%rsp)
-	vmovups 0x110(%rsp),%ymm0
-	vmovups %ymm0,0x1d0(%rsp)
-	cmpb $0x0,0x60(%rsp)
-	jne L(42_5)
-	vmovups 0x1d0(%rsp),%ymm0
-	vmovups %ymm0,0x2b0(%rsp)
-	vmovups 0x1b0(%rsp),%ymm0
-	vmovups %ymm0,0x290(%rsp)
-	vmovups 0x130(%rsp),%ymm0
-	vmovups 0x150(%rsp),%ymm1
-	vmovups 0x170(%rsp),%ymm2
-	vmovups 0x190(%rsp),%ymm3
-	vmovups %ymm3,0x270(%rsp)
-	vmovups %ymm2,0x250(%rsp)
-	vmovups %ymm1,0x230(%rsp)
-	vmovups %ymm0,0x210(%rsp)
+	cmpb $0x0,0x100(%rsp)
+	je L(42_1)
 	vxorps %xmm0,%xmm0,%xmm0
-	vmovups %ymm0,0x1f0(%rsp)
-	vmovups %ymm0,0x60(%rsp)
-	vmovups %ymm0,0x80(%rsp)
-	movw $0x0,0xa0(%rsp)
+	vmovups %ymm0,0xbf(%rsp)
+	vmovups %ymm0,0x9f(%rsp)
+	vmovups %ymm0,0x7f(%rsp)
+	vmovups %ymm0,0x5f(%rsp)
+	vmovups %ymm0,0x3f(%rsp)
+	vmovups %ymm0,0x1f(%rsp)
+	mov $0x8,%eax
+	jmp L(42_7)
+L(42_0):
+	vmovups %ymm0,0xbf(%rsp)
+	vmovups %ymm0,0x9f(%rsp)
+	vmovups %ymm0,0x7f(%rsp)
+	vmovups %ymm0,0x5f(%rsp)
+	vmovups %ymm0,0x3f(%rsp)
+	vmovups %ymm0,0x1f(%rsp)
+	jmp L(42_7)
+L(42_1):
+	vmovups 0x1b0(%rsp),%ymm0
+	vmovups %ymm0,0xbf(%rsp)
+	vmovups 0x190(%rsp),%ymm1
+	vmovups %ymm1,0x9f(%rsp)
+	vmovups 0x110(%rsp),%ymm2
+	vmovups 0x130(%rsp),%ymm3
+	vmovups 0x150(%rsp),%ymm4
+	vmovups 0x170(%rsp),%ymm5
+	vmovups %ymm2,0x1d0(%rsp)
+	vmovups %ymm3,0x1f0(%rsp)
+	vmovups %ymm4,0x210(%rsp)
+	vmovups %ymm5,0x230(%rsp)
+	vmovups %ymm1,0x250(%rsp)
+	vmovups %ymm0,0x270(%rsp)
+	vmovups 0x270(%rsp),%ymm0
+	vmovups %ymm0,0x330(%rsp)
+	vmovups 0x250(%rsp),%ymm0
+	vmovups %ymm0,0x310(%rsp)
+	vmovups 0x1d0(%rsp),%ymm0
+	vmovups 0x1f0(%rsp),%ymm1
+	vmovups 0x210(%rsp),%ymm2
+	vmovups 0x230(%rsp),%ymm3
+	vmovups %ymm3,0x2f0(%rsp)
+	vmovups %ymm2,0x2d0(%rsp)
+	vmovups %ymm1,0x2b0(%rsp)
+	vmovups %ymm0,0x290(%rsp)
+	vxorps %xmm0,%xmm0,%xmm0
+	vmovups %ymm0,0xe0(%rsp)
+	vmovups %ymm0,0x100(%rsp)
+	vmovups %ymm0,0x120(%rsp)
+	movw $0x0,0x140(%rsp)
 	movbe %r14,0x8(%rsp)
-	lea 0x60(%rsp),%r14
-	lea 0x210(%rsp),%rsi
+	lea 0x100(%rsp),%r14
+	lea 0x290(%rsp),%rsi
 	lea 0x8(%rsp),%rdx
-	lea 0x1f0(%rsp),%r8
+	lea 0xe0(%rsp),%r8
 	mov $0x8,%ecx
 	mov %r14,%rdi
 	vzeroupper
 	call ring.hmac.sign_counted
-	cmpb $0x0,0x60(%rsp)
-	jne L(42_6)
-	vmovups 0x81(%rsp),%ymm0
+	cmpb $0x0,0x100(%rsp)
+	jne L(42_8)
+	vmovups 0x121(%rsp),%ymm0
 	vmovups %ymm0,0x30(%rsp)
-	vmovups 0x61(%rsp),%ymm0
+	vmovups 0x101(%rsp),%ymm0
 	vmovups %ymm0,0x10(%rsp)
-	movzbl 0xa1(%rsp),%eax
+	movzbl 0x141(%rsp),%eax
 	mov %al,0x50(%rsp)
 	lea L(210_0)(%rip),%rcx
 	movslq (%rcx,%rax,4),%rax
 	add %rcx,%rax
-	jmp *%rax
-L(42_0):
-	lea 0x30(%rsp),%rax
-	jmp L(42_4)
-L(42_1):
-	lea 0x50(%rsp),%rax
-	jmp L(42_4)
-L(42_2):
-	lea 0x24(%rsp),%rax
-	jmp L(42_4)
-L(42_3):
-	lea 0x40(%rsp),%rax
-L(42_4):
 	mov %r15,%rdi
+	jmp *%rax
+L(42_2):
+	lea 0x30(%rsp),%rax
+	jmp L(42_6)
+L(42_3):
+	lea 0x50(%rsp),%rax
+	jmp L(42_6)
+L(42_4):
+	lea 0x24(%rsp),%rax
+	jmp L(42_6)
+L(42_5):
+	lea 0x40(%rsp),%rax
+L(42_6):
 	movzbl -0x1(%rax),%ecx
 	and $0xf,%ecx
 	lea L(switch.table.ring_tokens.otp.find_hotp_counted)(%rip),%rsi
@@ -15682,7 +15709,7 @@ L(42_4):
 	shl $0x8,%ecx
 	or %rsi,%rcx
 	or %rax,%rcx
-	mov %rcx,0x60(%rsp)
+	mov %rcx,0x100(%rsp)
 	sub %rbx,%r14
 	add $0x8,%r14
 	mov %r14,%rsi
@@ -15690,16 +15717,16 @@ L(42_4):
 	vzeroupper
 	call memcpy
 	xor %eax,%eax
-L(42_5):
-	add $0x2d0,%rsp
+L(42_7):
+	add $0x350,%rsp
 	pop %rbx
 	pop %r14
 	pop %r15
 	vzeroupper
 	ret
-L(42_6):
+L(42_8):
 	ud2
-	SIZE(ring_c.otp.write, 963)
+	SIZE(ring_c.otp.write, 1161)
 
 	CODE(ring_tokens.otp.find_hotp_counted)
 	.p2align 4
@@ -40223,91 +40250,47 @@ v3_yz_hotp_find:
 	mov %rcx,%r15
 	mov %rdx,%rcx
 	mov %rsi,%rdx
-	mov %edi,%esi
 	mov 0x210(%rsp),%rbx
-	xor %edi,%edi
+	xor %esi,%esi
 	test %rdx,%rdx
 	sete %r10b
 	xor %r13d,%r13d
 	test %rbx,%rbx
-	sete %r14b
-	dec %esi
+	sete %r12b
+	dec %edi
 	mov $0x1,%eax
-	cmp $0x3,%esi
-	ja L(170_0)
+	cmp $0x3,%edi
+	ja L(170_1)
 	add $0xfffffffffffffffa,%r9
 	mov $0x4,%eax
 	cmp $0x2,%r9
-	ja L(170_0)
-	mov %r9,%rbp
-	mov %r8,0x8(%rsp)
-	mov %r10b,%dil
-	shl $0xc,%edi
-	add %rdi,%rdx
+	ja L(170_1)
 	vxorps %xmm0,%xmm0,%xmm0
-	vmovups %ymm0,0x10(%rsp)
-	vmovups %ymm0,0x30(%rsp)
-	vmovups %ymm0,0x50(%rsp)
-	vmovups %ymm0,0x70(%rsp)
-	vmovups %ymm0,0x90(%rsp)
-	vmovups %ymm0,0xb0(%rsp)
-	vmovups %ymm0,0xc0(%rsp)
 	vmovups %ymm0,0xe0(%rsp)
+	vmovups %ymm0,0xc0(%rsp)
+	vmovups %ymm0,0xb0(%rsp)
+	vmovups %ymm0,0x90(%rsp)
+	vmovups %ymm0,0x70(%rsp)
+	vmovups %ymm0,0x50(%rsp)
+	vmovups %ymm0,0x30(%rsp)
+	vmovups %ymm0,0x10(%rsp)
+	test %rcx,%rcx
+	je L(170_0)
+	mov %r9,%rbp
+	mov %r8,%r14
+	mov %r10b,%sil
+	shl $0xc,%esi
+	add %rsi,%rdx
+	movzbl %dil,%esi
 	lea 0x10(%rsp),%rdi
-	lea 0xe0(%rsp),%r12
-	mov %r12,%r8
+	lea 0xe0(%rsp),%r8
 	vzeroupper
 	call ring.hmac.key.Key.new_counted
-	vmovups 0x20(%rsp),%ymm0
-	vmovups 0x40(%rsp),%ymm1
-	vmovups 0x60(%rsp),%ymm2
-	vmovups 0x80(%rsp),%ymm3
-	vmovups %ymm0,0x118(%rsp)
-	vmovups %ymm1,0x138(%rsp)
-	vmovups %ymm2,0x158(%rsp)
-	vmovups %ymm3,0x178(%rsp)
-	vmovups 0xa0(%rsp),%ymm0
-	vmovups %ymm0,0x198(%rsp)
-	vmovups 0xc0(%rsp),%ymm0
-	vmovups %ymm0,0x1b8(%rsp)
 	cmpb $0x0,0x10(%rsp)
-	mov $0x8,%eax
-	jne L(170_0)
-	mov 0x218(%rsp),%r9
-	mov %r14b,%r13b
-	shl $0xc,%r13d
-	add %r13,%rbx
-	lea 0x118(%rsp),%rax
-	vmovups 0xa0(%rax),%ymm0
-	vmovups %ymm0,0xb0(%rsp)
-	vmovups 0x80(%rax),%ymm0
-	vmovups %ymm0,0x90(%rsp)
-	vmovups (%rax),%ymm0
-	vmovups 0x20(%rax),%ymm1
-	vmovups 0x40(%rax),%ymm2
-	vmovups 0x60(%rax),%ymm3
-	vmovups %ymm3,0x70(%rsp)
-	vmovups %ymm2,0x50(%rsp)
-	vmovups %ymm1,0x30(%rsp)
-	vmovups %ymm0,0x10(%rsp)
-	vxorps %xmm0,%xmm0,%xmm0
-	vmovups %ymm0,0xe0(%rsp)
-	mov %r12,(%rsp)
-	movzbl %bpl,%ecx
-	lea 0x10(%rsp),%rdi
-	mov %r15,%rsi
-	mov 0x8(%rsp),%rdx
-	mov %rbx,%r8
-	vzeroupper
-	call ring_tokens.otp.find_hotp_counted
-	mov %eax,%ecx
-	mov $0x8,%eax
-	cmp $0x1,%cl
-	jne L(170_0)
-	mov 0x220(%rsp),%rax
-	mov %rdx,(%rax)
-	xor %eax,%eax
+	je L(170_2)
 L(170_0):
+	mov $0x8,%eax
+L(170_1):
 	add $0x1d8,%rsp
 	pop %rbx
 	pop %r12
@@ -40317,7 +40300,57 @@ L(170_0):
 	pop %rbp
 	vzeroupper
 	ret
-	SIZE(v3_yz_hotp_find, 504)
+L(170_2):
+	vmovups 0xc0(%rsp),%ymm0
+	vmovups %ymm0,0x1af(%rsp)
+	vmovups 0xa0(%rsp),%ymm1
+	vmovups %ymm1,0x18f(%rsp)
+	vmovups 0x20(%rsp),%ymm2
+	vmovups 0x40(%rsp),%ymm3
+	vmovups 0x60(%rsp),%ymm4
+	vmovups 0x80(%rsp),%ymm5
+	vmovups %ymm2,0x1f(%rsp)
+	vmovups %ymm3,0x3f(%rsp)
+	vmovups %ymm4,0x5f(%rsp)
+	vmovups %ymm5,0x7f(%rsp)
+	vmovups %ymm1,0x9f(%rsp)
+	vmovups %ymm0,0xbf(%rsp)
+	mov 0x218(%rsp),%r9
+	mov %r12b,%r13b
+	vmovups 0xbf(%rsp),%ymm0
+	vmovups %ymm0,0x1a0(%rsp)
+	shl $0xc,%r13d
+	vmovups 0x9f(%rsp),%ymm0
+	vmovups %ymm0,0x180(%rsp)
+	vmovups 0x1f(%rsp),%ymm0
+	vmovups 0x3f(%rsp),%ymm1
+	vmovups 0x5f(%rsp),%ymm2
+	vmovups 0x7f(%rsp),%ymm3
+	vmovups %ymm3,0x160(%rsp)
+	vmovups %ymm2,0x140(%rsp)
+	vmovups %ymm1,0x120(%rsp)
+	vmovups %ymm0,0x100(%rsp)
+	add %r13,%rbx
+	vxorps %xmm0,%xmm0,%xmm0
+	vmovups %ymm0,0xe0(%rsp)
+	lea 0xe0(%rsp),%rax
+	mov %rax,(%rsp)
+	movzbl %bpl,%ecx
+	lea 0x100(%rsp),%rdi
+	mov %r15,%rsi
+	mov %r14,%rdx
+	mov %rbx,%r8
+	vzeroupper
+	call ring_tokens.otp.find_hotp_counted
+	mov %eax,%ecx
+	mov $0x8,%eax
+	cmp $0x1,%cl
+	jne L(170_1)
+	mov 0x220(%rsp),%rax
+	mov %rdx,(%rax)
+	xor %eax,%eax
+	jmp L(170_1)
+	SIZE(v3_yz_hotp_find, 533)
 
 	CODE(yz_jws_sign)
 	.p2align 4
@@ -42772,34 +42805,36 @@ v3_yz_totp_find:
 	sete %r11b
 	xor %r12d,%r12d
 	test %rbx,%rbx
-	sete %r14b
+	sete %bpl
 	dec %edi
 	mov $0x1,%eax
 	cmp $0x3,%edi
-	ja L(198_3)
+	ja L(198_2)
 	mov 0x228(%rsp),%r15
 	add $0xfffffffffffffffa,%r15
 	mov $0x4,%eax
 	cmp $0x2,%r15
-	ja L(198_3)
+	ja L(198_2)
 	mov $0x8,%eax
 	test %r8d,%r8d
-	je L(198_3)
-	mov %r8d,%ebp
+	je L(198_2)
 	mov %rcx,0x18(%rsp)
 	mov %r9d,0x14(%rsp)
+	vxorps %xmm0,%xmm0,%xmm0
+	vmovups %ymm0,0xf0(%rsp)
+	vmovups %ymm0,0xd0(%rsp)
+	vmovups %ymm0,0xc0(%rsp)
+	vmovups %ymm0,0xa0(%rsp)
+	vmovups %ymm0,0x80(%rsp)
+	vmovups %ymm0,0x60(%rsp)
+	vmovups %ymm0,0x40(%rsp)
+	vmovups %ymm0,0x20(%rsp)
+	test %r10,%r10
+	je L(198_2)
+	mov %r8d,%r14d
 	mov %r11b,%sil
 	shl $0xc,%esi
 	add %rsi,%rdx
-	vxorps %xmm0,%xmm0,%xmm0
-	vmovups %ymm0,0x20(%rsp)
-	vmovups %ymm0,0x40(%rsp)
-	vmovups %ymm0,0x60(%rsp)
-	vmovups %ymm0,0x80(%rsp)
-	vmovups %ymm0,0xa0(%rsp)
-	vmovups %ymm0,0xc0(%rsp)
-	vmovups %ymm0,0xd0(%rsp)
-	vmovups %ymm0,0xf0(%rsp)
 	movzbl %dil,%esi
 	lea 0x20(%rsp),%rdi
 	lea 0xf0(%rsp),%r13
@@ -42807,57 +42842,56 @@ v3_yz_totp_find:
 	mov %r13,%r8
 	vzeroupper
 	call ring.hmac.key.Key.new_counted
-	vmovups 0x30(%rsp),%ymm0
-	vmovups 0x50(%rsp),%ymm1
-	vmovups 0x70(%rsp),%ymm2
-	vmovups 0x90(%rsp),%ymm3
-	vmovups %ymm0,0x128(%rsp)
-	vmovups %ymm1,0x148(%rsp)
-	vmovups %ymm2,0x168(%rsp)
-	vmovups %ymm3,0x188(%rsp)
-	vmovups 0xb0(%rsp),%ymm0
-	vmovups %ymm0,0x1a8(%rsp)
-	vmovups 0xd0(%rsp),%ymm0
-	vmovups %ymm0,0x1c8(%rsp)
-	cmpb $0x0,0x20(%rsp)
-	je L(198_0)
 	mov $0x8,%eax
-	jmp L(198_3)
-L(198_0):
+	cmpb $0x0,0x20(%rsp)
+	jne L(198_2)
 	mov 0x238(%rsp),%r9
-	mov %r14b,%r12b
-	shl $0xc,%r12d
-	add %r12,%rbx
-	lea 0x128(%rsp),%rax
-	vmovups 0xa0(%rax),%ymm0
-	vmovups %ymm0,0xc0(%rsp)
 	mov 0x220(%rsp),%ecx
-	vmovups 0x80(%rax),%ymm0
-	vmovups %ymm0,0xa0(%rsp)
-	vmovups (%rax),%ymm0
-	vmovups 0x20(%rax),%ymm1
-	vmovups 0x40(%rax),%ymm2
-	vmovups 0x60(%rax),%ymm3
-	vmovups %ymm3,0x80(%rsp)
-	vmovups %ymm2,0x60(%rsp)
-	vmovups %ymm1,0x40(%rsp)
-	vmovups %ymm0,0x20(%rsp)
+	mov %bpl,%r12b
+	vmovups 0xd0(%rsp),%ymm0
+	vmovups %ymm0,0x1bf(%rsp)
+	shl $0xc,%r12d
+	vmovups 0xb0(%rsp),%ymm1
+	vmovups %ymm1,0x19f(%rsp)
+	vmovups 0x30(%rsp),%ymm2
+	vmovups 0x50(%rsp),%ymm3
+	vmovups 0x70(%rsp),%ymm4
+	vmovups 0x90(%rsp),%ymm5
+	vmovups %ymm2,0x2f(%rsp)
+	vmovups %ymm3,0x4f(%rsp)
+	vmovups %ymm4,0x6f(%rsp)
+	vmovups %ymm5,0x8f(%rsp)
+	vmovups %ymm1,0xaf(%rsp)
+	vmovups %ymm0,0xcf(%rsp)
+	add %r12,%rbx
+	vmovups 0xcf(%rsp),%ymm0
+	vmovups %ymm0,0x1b0(%rsp)
+	vmovups 0xaf(%rsp),%ymm0
+	vmovups %ymm0,0x190(%rsp)
+	vmovups 0x4f(%rsp),%ymm0
+	vmovups 0x6f(%rsp),%ymm1
+	vmovups 0x8f(%rsp),%ymm2
+	vmovups %ymm2,0x170(%rsp)
+	vmovups %ymm1,0x150(%rsp)
+	vmovups %ymm0,0x130(%rsp)
+	vmovups 0x2f(%rsp),%ymm0
+	vmovups %ymm0,0x110(%rsp)
 	vxorps %xmm0,%xmm0,%xmm0
 	vmovups %ymm0,0xf0(%rsp)
-	mov %ebp,%edi
+	mov %r14d,%esi
 	mov 0x18(%rsp),%rax
 	mov %rax,%rdx
 	shr $0x20,%rdx
-	mov 0x14(%rsp),%esi
-	je L(198_1)
+	je L(198_0)
 	xor %edx,%edx
-	div %rdi
-	jmp L(198_2)
+	div %rsi
+	jmp L(198_1)
+L(198_0):
+	xor %edx,%edx
+	div %esi
 L(198_1):
-	xor %edx,%edx
-	div %edi
-L(198_2):
-	mov %esi,%edx
+	mov 0x14(%rsp),%edx
+	mov %edx,%edx
 	xor %esi,%esi
 	mov %rax,%rdi
 	sub %rdx,%rdi
@@ -42868,17 +42902,17 @@ L(198_2):
 	inc %rdx
 	mov %r13,(%rsp)
 	movzbl %r15b,%ecx
-	lea 0x20(%rsp),%rdi
+	lea 0x110(%rsp),%rdi
 	mov %rbx,%r8
 	vzeroupper
 	call ring_tokens.otp.find_hotp_counted
 	cmp $0x1,%al
 	mov $0x8,%eax
-	jne L(198_3)
+	jne L(198_2)
 	mov 0x240(%rsp),%rax
 	mov %rdx,(%rax)
 	xor %eax,%eax
-L(198_3):
+L(198_2):
 	add $0x1e8,%rsp
 	pop %rbx
 	pop %r12
@@ -42888,7 +42922,7 @@ L(198_3):
 	pop %rbp
 	vzeroupper
 	ret
-	SIZE(v3_yz_totp_find, 592)
+	SIZE(v3_yz_totp_find, 624)
 
 	CONSTANTS(cst16,"aM",%progbits,16)
 	.p2align 4
@@ -43734,11 +43768,11 @@ L(208_0):
 NAMED(ring_c.otp.write.tables)
 	.p2align 2
 L(210_0):
+	.long L(42_4)-L(210_0)
 	.long L(42_2)-L(210_0)
-	.long L(42_0)-L(210_0)
+	.long L(42_5)-L(210_0)
 	.long L(42_3)-L(210_0)
-	.long L(42_1)-L(210_0)
-	.long L(42_0)-L(210_0)
+	.long L(42_2)-L(210_0)
 
 	CONSTANTS(ring_tokens.otp.find_hotp_counted,"a",%progbits)
 NAMED(ring_tokens.otp.find_hotp_counted.tables)

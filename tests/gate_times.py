@@ -172,6 +172,28 @@ Of these `rt ci` took, in seconds of processor:
 Behind.
 """)
 
+    def test_crates_alone(self):
+        """What crate_times tells gives the rows of the crates, without those of steps."""
+        self.write("CONTRIBUTING.md", PAGE)
+        self.write("one", "time of one, proof: 9 seconds, 1200 of processor\n")
+        self.write("two", "time of two, edits: 9 seconds, 8 of processor\n")
+        self.assertEqual(self.run_in("tools/gate_times", "one", "two"), ("", 0))
+        self.assertEqual((self.root / "CONTRIBUTING.md").read_text(), """# Page
+
+<!-- times: made by a tool -->
+
+`rt ci` took, in seconds of processor:
+
+| Crate | Proof | Its tests' proof | `must-fail/` |
+|---|---|---|---|
+| `one` | 1,200 |  |  |
+| `two` |  |  | 8 |
+| `three` |  |  |  |
+
+<!-- /times -->
+Behind.
+""")
+
     def test_other_texts(self):
         """What is no whole gate's log, or no page with one place for the tables, is refused."""
         self.write("CONTRIBUTING.md", PAGE)

@@ -102,7 +102,9 @@ OBJECTS = $(TEXTS:generated/%.S=$(OUT)/%.o)
 WHOLE_OUT = $(if $(filter /%,$(OUT)),$(OUT),$(CURDIR)/$(OUT))
 ROOT = $(WHOLE_OUT)/root
 ARCHIVE = $(OUT)/libyezdopin.a
-# The same, but that all processors get the calls of one build: for tests.
+# The same as one object with the names of the header, of which the shared library is linked.
+WHOLE = $(OUT)/yezdopin.o
+# The archive, but that all processors get the calls of one build: for tests.
 ARCHIVE_V2 = $(OUT)/v2/libyezdopin.a
 ARCHIVE_V3 = $(OUT)/v3/libyezdopin.a
 SONAME = libyezdopin.so.$(MAJOR)

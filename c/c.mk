@@ -82,10 +82,8 @@ define pack_archive
 	LC_ALL=C; $(AR) rcsD $@ $(1)
 endef
 
-# One object with the names of the header, of which the shared library is linked; and the archive,
-# of objects that have what the same calls reach, so that a program takes only what it calls. The
-# names between these are hidden, and begin with `yz`, `v2_yz` or `v3_yz`.
-WHOLE = $(OUT)/yezdopin.o
+# The archive has objects of what the same calls reach, so that a program takes only what it calls.
+# The names between these are hidden, and begin with `yz`, `v2_yz` or `v3_yz`.
 PIECES = $(OUT)/pieces
 
 # What tests run over: the archive, and where it has two builds those with one each.

@@ -11,7 +11,8 @@ from elf import X86
 # address of the constant that it reads, or None. That is a function of what gives the bytes between
 # two addresses, and of how far the code is moved.
 Filled = namedtuple("Filled", "line mask constant")
-BRANCH, PAGE, IN_PAGE = 0x03ffffff, 0x60ffffe0, 0x003ffc00  # of 64-bit ARM
+# Of 64-bit ARM. A linker writes `adrp` at a page's end as `adr`, for the sake of the Cortex-A53.
+BRANCH, PAGE, IN_PAGE = 0x03ffffff, 0xe0ffffe0, 0x003ffc00
 
 
 def filled(library, lines, symbol):
@@ -48,8 +49,8 @@ def constant_of_x86(line, place):
 def of_arm(lines, symbol):
     pages = {}  # by a register: the instruction that has put a page's address there
     for line in lines:
-        if (it := re.fullmatch(r"adrp (x\d+), .*", line.text)):
-            pages[it[1]] = line
+        if (it := re.fullmatch(r"adr(?:p (x\d+), .*| (x\d+), [0-9a-f]*000)", line.text)):
+            pages[it[1] or it[2]] = line
             yield Filled(line, PAGE, None)
             continue
         it = re.fullmatch(r"(?:ldrb? \w+, \[(x\d+).*\]|add x\d+, (x\d+), #.*)", line.text)
@@ -74,5 +75,7 @@ def constant_of_arm(page, line):
         offset = of_line >> 10 & 0xfff
         if line.text.startswith("ldr "):
             offset *= {"q": 16, "d": 8, "x": 8, "s": 4, "w": 4}[line.text[4]]
+        if not of_page >> 31:
+            return page.at + moved + pages + offset
         return (page.at + moved & -4096) + (pages << 12) + offset
     return run

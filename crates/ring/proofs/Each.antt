@@ -2,7 +2,7 @@
 -- Lists of messages and of their digests.
 use Rattle.std.proofs.lemmas.Grind.{common_steps}
 use Rattle.std.proofs.Common.{◌≡◌, ℕ, ◌+◌, ◌-◌, ◌*◌, ◌<◌, ◌≤◌, List, [], ◌∷◌, ◌++◌, length, take}
-use Rattle.std.proofs.Common.{drop, get_or, map, slice_set, ap, ◌∙◌, arith, refl, take-add, Bor}
+use Rattle.std.proofs.Common.{drop, get_or, map, slice_set, ap, ◌∙◌, arith, take-add, Bor}
 use Rattle.std.proofs.Math.ListN.{get_or-map}
 use Rattle.std.proofs.lemmas.List.{drop_more, get_or-set_other, get_or-set_same, length-take-le}
 use Rattle.std.proofs.lemmas.List.{map-append}
@@ -18,10 +18,13 @@ pub message-read : (messages : List (Bor (List ℕ))) (k : ℕ)
 message-read messages k =
     get_or-map (λ message. message.now) messages k record { ref_ptr = (0, 0); now = [] }
 
--- what holds of the first items of a list, and of one that is put to the next place
+-- what holds of the first items of a list
+abbrev pub HoldsOfFirst : {X : Type 0} → (ℕ → X → Type 0) → ℕ → List X → X → Type 0
+HoldsOfFirst P i xs d = (k : ℕ) → k < i → P k (get_or xs k d)
+
+-- and of one that is put to the next place
 pub set-more : {X : Type 0} {i : ℕ} (P : ℕ → X → Type 0) (xs : List X) (x d : X) → i < length xs
-    → ((k : ℕ) → k < i → P k (get_or xs k d)) → P i x
-    → (k : ℕ) → k < i + 1 → P k (get_or (slice_set xs i x) k d)
+    → HoldsOfFirst P i xs d → P i x → HoldsOfFirst P (i + 1) (slice_set xs i x) d
 set-more {i = i} P xs x d room have here =
     grind (arith, common_steps, get_or-set_other, get_or-set_same)
 
@@ -30,14 +33,12 @@ pub raised-then : (m0 : Counts) {m1 m2 : Counts} (a b : ℕ) → m1 ≡ raised m
     → m2 ≡ raised m0 (a + b) 0
 raised-then m0 a b e1 e2 = e2 ∙ rw e1 (raised-raised m0 a 0 b 0)
 
--- of n messages whose first k blocks ran in lanes, one more is done: `made` became `next`
-pub raised-lane : (m0 : Counts) {m1 m2 : Counts} (made b next n i k : ℕ)
-    → m1 ≡ raised m0 (made + (n - i) * k) 0 → m2 ≡ raised m1 (b - k) 0 → i < n → k ≤ b
-    → made + b ≡ next → m2 ≡ raised m0 (next + (n - (i + 1)) * k) 0
-raised-lane m0 made b next n i k e1 e2 below fits sum =
+-- of n messages whose first k blocks ran in lanes, one more is done: it has b blocks
+pub lanes-left : (n i k b : ℕ) → i < n → k ≤ b → (n - i) * k + (b - k) ≡ b + (n - (i + 1)) * k
+lanes-left n i k b below fits =
     let turn : n - i ≡ n - (i + 1) + 1 = omega arith in
     let left : (n - i) * k ≡ (n - (i + 1)) * k + k = rw turn (grind arith) in
-    raised-sum m0 _ 0 _ 0 e1 e2 (omega (arith, left, fits, sum)) refl
+    omega (arith, left, fits)
 
 pub message_at-append : (ms ns : List (Bor (List ℕ))) (k : ℕ)
     → message_at (ms ++ ns) k ≡ get_or (map (λ m. m.now) ms ++ map (λ n. n.now) ns) k []
@@ -83,7 +84,7 @@ pub digests-next : {a : Algorithm} {messages : List (Bor (List ℕ))} {before no
 digests-next {a} {messages} {before} n k have put are cost =
     record {
       digests = digests-more a messages n k have.digests put are;
-      cost = raised-sum before _ 0 _ 0 have.cost cost (each_blocks-more a messages n k) refl;
+      cost = raised-sum before _ _ have.cost cost (each_blocks-more a messages n k);
     }
 
 -- the message at a place of some of the messages

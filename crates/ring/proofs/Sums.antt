@@ -10,9 +10,14 @@ pub raised_zero : (m : Counts) (b p : ℕ) → b ≡ 0 → p ≡ 0 → raised m 
 raised_zero m b p blocks pairs = rw (blocks, pairs) (sym (raised-none m))
 
 -- what two rises make of both counts
-pub raised-sum : (m0 : Counts) {m1 m2 : Counts} (b p c q : ℕ) {s t : ℕ} → m1 ≡ raised m0 b p
-    → m2 ≡ raised m1 c q → b + c ≡ s → p + q ≡ t → m2 ≡ raised m0 s t
-raised-sum m0 b p c q e1 e2 blocks pairs = grind (arith, raised-raised)
+pub raised-both : (m0 : Counts) {m1 m2 : Counts} (b p c q : ℕ) {s t : ℕ}
+    → (m1 ≡ raised m0 b p) × (m2 ≡ raised m1 c q) → b + c ≡ s → p + q ≡ t → m2 ≡ raised m0 s t
+raised-both m0 b p c q rises blocks pairs = grind (arith, raised-raised)
+
+-- and of the blocks alone
+pub raised-sum : (m0 : Counts) {m1 m2 : Counts} (b c : ℕ) {s : ℕ} → m1 ≡ raised m0 b 0
+    → m2 ≡ raised m1 c 0 → b + c ≡ s → m2 ≡ raised m0 s 0
+raised-sum m0 b c e1 e2 sum = grind (arith, raised-raised)
 
 pub sum_below-none : (f : ℕ → ℕ) → sum_below f 0 ≡ 0
 unfolding sum_below

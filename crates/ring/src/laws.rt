@@ -5,30 +5,22 @@
 //! does nothing: a caller's proof cites it.
 
 ghost use Rattle.std.specs.Prelude.{◌≡◌, ◌↔◌, ℕ, ◌+◌, ◌-◌, ◌^◌, ◌<◌, ◌≤◌, List, [], ◌++◌, length};
-ghost use Rattle.std.specs.Prelude.{replicate, take, IfOk, IsErr, IsOk, None, OnErr, OnOk, Result};
-ghost use Rattle.std.specs.Prelude.{Some};
-ghost use Rattle.ring.specs.Prelude.{Algorithm, Context, Counts, HasLimits, IsDigest};
-ghost use Rattle.ring.specs.Prelude.{IsNoContext, IsNoKey, IsNoTagContext};
-ghost use Rattle.ring.specs.Prelude.{IsTag, Key, KeyStandsFor};
-ghost use Rattle.ring.specs.Prelude.{RawContext, RawKey, RawKeyStandsFor, RawStandsFor};
-ghost use Rattle.ring.specs.Prelude.{RawTagContext, RawTagStandsFor, SHA1_FOR_LEGACY_USE_ONLY};
-ghost use Rattle.ring.specs.Prelude.{SHA256, SHA384, SHA512, SHA512_256, StandsFor, TagStandsFor};
-ghost use Rattle.ring.specs.Prelude.{block_len, compared_pairs, context_algorithm, derive_blocks};
-ghost use Rattle.ring.specs.Prelude.{digest_named, digest_of, digest_with, dk, hmac_of, joined};
-ghost use Rattle.ring.specs.Prelude.{key_algorithm, max_input_len, named_block_len, okm};
-ghost use Rattle.ring.specs.Prelude.{output_len, padded_blocks, raised, raw_digest_with};
-ghost use Rattle.ring.specs.Prelude.{raw_tag_under, raw_tag_with, signing_algorithm, tag_algorithm};
-ghost use Rattle.ring.specs.Prelude.{tag_under, tag_with};
+ghost use Rattle.std.specs.Prelude.{replicate, take, IsOk, None, Result, Some};
+ghost use Rattle.ring.specs.Prelude.{Algorithm, Context, Counts, HasLimits, IsNoContext, IsNoKey};
+ghost use Rattle.ring.specs.Prelude.{IsNoTagContext, Key, KeyStandsFor, RawContext, RawKey};
+ghost use Rattle.ring.specs.Prelude.{RawKeyStandsFor, RawStandsFor, RawTagContext};
+ghost use Rattle.ring.specs.Prelude.{RawTagStandsFor, SHA1_FOR_LEGACY_USE_ONLY, SHA256, SHA384};
+ghost use Rattle.ring.specs.Prelude.{SHA512, SHA512_256, StandsFor, TagStandsFor, block_len};
+ghost use Rattle.ring.specs.Prelude.{compared_pairs, context_algorithm, derive_blocks, digest_named};
+ghost use Rattle.ring.specs.Prelude.{digest_of, digest_with, dk, hmac_of, joined, key_algorithm};
+ghost use Rattle.ring.specs.Prelude.{named_block_len, okm, output_len, raised, raw_digest_with};
+ghost use Rattle.ring.specs.Prelude.{raw_tag_under, raw_tag_with, signing_algorithm, tag_under};
+ghost use Rattle.ring.specs.Prelude.{tag_with};
 ghost use Rattle.ring.specs.declared.hmac.context.Context.{Context as TagContext};
 ghost use Rattle.ring_core.specs.declared.error.Unspecified.{Unspecified as Refusal};
 ghost use Rattle.std.specs.Borrow.{Bor};
 
-use crate::digest::{Algorithm, Context, Digest};
-use crate::hmac::{self, Key, Tag};
-use crate::limits::message::is_message_within;
-use crate::limits::{is_tag_within, joined_len};
-use ring_core::cost::Meter;
-use ring_core::error::Unspecified;
+pub use crate::joined::{digest_pieces, sign_pieces};
 
 // The names under which callers have known these laws: the same function under both.
 pub use crate::laws::{
@@ -37,60 +29,6 @@ pub use crate::laws::{
     long_key_signs_as_its_digest as law_4, shorter_derivation_is_a_front as law_8,
     shorter_output_is_a_front as law_5, zeros_after_a_key_change_no_tag as law_3,
 };
-
-/// Returns the digest under `algorithm` of the message that `pieces` join to (FIPS 180-4, section
-/// 6), from a [`Context`] that is updated piece by piece. Its blocks are counted on `meter`: as
-/// many as the joined message has.
-///
-/// Refused where the pieces together are longer than the algorithm's `max_input_len` bytes. `meter`
-/// is then as it was.
-pub fn digest_pieces(
-    algorithm: &Algorithm,
-    pieces: &[&[u8]],
-    meter: &mut Meter,
-) -> Result<Digest, Unspecified>
-    ensures ok { IfOk result (λ digest. IsDigest digest algorithm.now (joined pieces.now)) }
-    ensures refused { IsErr result ↔ (max_input_len algorithm.now < length (joined pieces.now)) }
-    ensures unchanged { OnErr result (meter.new ≡ meter.old) }
-    ensures cost { OnOk result (meter.new
-        ≡ raised meter.old (padded_blocks algorithm.now (length (joined pieces.now))) 0) }
-{
-    if !is_message_within(algorithm, joined_len(pieces)) {
-        return Err(Unspecified);
-    }
-    let mut context = Context::new(algorithm);
-    'pieces: for piece in pieces {
-        context.update_counted(piece, meter);
-    }
-    context.finish_counted(meter)
-}
-
-/// Returns the tag under `key` of the message that `pieces` join to (RFC 2104, section 2), from a
-/// context that is updated piece by piece. Its blocks are counted on `meter`: as many as the joined
-/// message has.
-///
-/// Refused where one block and the pieces together are longer than the digest algorithm's
-/// `max_input_len` bytes. `meter` is then as it was.
-pub fn sign_pieces(key: &Key, pieces: &[&[u8]], meter: &mut Meter) -> Result<Tag, Unspecified>
-    ensures ok { (k : List ℕ) → KeyStandsFor key.now k
-        → IfOk result (λ tag. IsTag tag (key_algorithm key.now) k (joined pieces.now)) }
-    ensures refused { IsErr result
-        ↔ (max_input_len (key_algorithm key.now)
-        < block_len (key_algorithm key.now) + length (joined pieces.now)) }
-    ensures unchanged { OnErr result (meter.new ≡ meter.old) }
-    ensures cost { OnOk result (meter.new ≡ raised meter.old
-        (padded_blocks (key_algorithm key.now) (length (joined pieces.now)) + 1) 0) }
-    ensures algorithm { IfOk result (λ tag. tag_algorithm tag ≡ key_algorithm key.now) }
-{
-    if !is_tag_within(&key.algorithm(), joined_len(pieces)) {
-        return Err(Unspecified);
-    }
-    let mut context = hmac::Context::with_key(key);
-    'parts: for piece in pieces {
-        context.update_counted(piece, meter);
-    }
-    context.sign_counted(meter)
-}
 
 /// Zeros appended to a key, up to the length of a block, change no tag (RFC 2104, section 2).
 #[tactic(auto, using(crate::proofs::lemmas::laws::SameKeys::key_laws))]

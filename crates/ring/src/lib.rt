@@ -25,6 +25,7 @@
 pub mod digest;
 pub mod hkdf;
 pub mod hmac;
+mod joined;
 pub mod laws;
 mod limits;
 pub mod pbkdf2;

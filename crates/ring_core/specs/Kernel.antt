@@ -1,14 +1,19 @@
 -- SPDX-License-Identifier: ISC
 -- What the kernels of one message give and count, which stands here once for all of a family.
-use Rattle.std.specs.Prelude.{◌≡◌, ℕ, List, drop, map, take}
+use Rattle.std.specs.Prelude.{◌≡◌, ℕ, ◌<◌, List, ◌++◌, drop, map, slice_index, take}
 use Rattle.std.specs.declared.num.Wrapping.{Wrapping}
 use Rattle.ring_core.specs.Chunks.{fold_chunks}
 use Rattle.ring_core.specs.Cost.{Counts, raised}
-use Rattle.ring_core.specs.Schedule.{IsBlockOf}
 use Rattle.ring_core.specs.Sha1.{block_step, blocks_from}
 use Rattle.ring_core.specs.Sha2 as sha2
 use Rattle.ring_core.specs.Sha2.{Family, block_len}
-use Rattle.ring_core.specs.Word.{word_32}
+use Rattle.ring_core.specs.Word.{word_32, word_at}
+
+-- the words of the block, each of w bits, are the first n of front and those of padding past them
+-- (5.2)
+pub record IsBlockOf (w n : ℕ) (front padding block : List ℕ) : Type 0 where
+  pub word : (t : ℕ) → t < 16
+      → slice_index (take n front ++ drop n padding) t ≡ word_at w block t
 
 -- the words new are what step makes of old and the first n blocks of a message, of len bytes each,
 -- and these blocks are counted

@@ -6,6 +6,7 @@ pub mod Word
 pub mod Lane
 pub mod Sizes
 pub mod Schedule
+pub mod Window
 pub mod Chunks
 pub mod Views
 pub mod Cost

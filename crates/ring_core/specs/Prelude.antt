@@ -9,8 +9,9 @@ pub use Rattle.ring_core.specs.Word.{rotl, choose, parity, majority, big_endian,
 pub use Rattle.ring_core.specs.Word.{low_32}
 unfoldable pub use Rattle.ring_core.specs.Lane.{lane}
 pub use Rattle.ring_core.specs.Lane.{lane-lt, words_of_lane}
-pub use Rattle.ring_core.specs.Schedule.{IsWindow, IsBefore, IsBlockOf, four, sixteen, HoldsSums}
-pub use Rattle.ring_core.specs.Schedule.{IsReady, IsAhead, IsSummed}
+pub use Rattle.ring_core.specs.Kernel.{IsBlockOf}
+pub use Rattle.ring_core.specs.Window.{IsWindow, IsBefore, four, sixteen, HoldsSums, IsReady}
+pub use Rattle.ring_core.specs.Window.{IsAhead, IsSummed}
 unfoldable pub use Rattle.ring_core.specs.Schedule.{listed, listed_at}
 pub use Rattle.ring_core.specs.Chunks.{chunk_count, chunk_at, chunks, array_at}
 unfoldable pub use Rattle.ring_core.specs.Chunks.{fold_chunks}

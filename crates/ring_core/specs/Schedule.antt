@@ -1,9 +1,6 @@
 -- SPDX-License-Identifier: ISC
 -- A schedule: words that each follow from those before it.
-use Rattle.std.specs.Prelude.{◌≡◌, ℕ, zero, suc, ◌+◌, ◌*◌, ◌%◌, ◌<◌, ◌≤◌, List, [], ◌∷◌, ◌++◌}
-use Rattle.std.specs.Prelude.{drop, length, slice_index, take}
-use Rattle.ring_core.specs.Chunks.{array_at}
-use Rattle.ring_core.specs.Word.{word_at}
+use Rattle.std.specs.Prelude.{ℕ, zero, suc, List, [], ◌∷◌, ◌++◌, slice_index}
 
 -- the list made by appending `next ws t` to the words ws before it, for t = 0, .., n - 1
 unfoldable pub listed : (List ℕ → ℕ → ℕ) → ℕ → List ℕ
@@ -13,49 +10,3 @@ listed next (suc n) = listed next n ++ next (listed next n) n ∷ []
 -- its word t
 unfoldable pub listed_at : (List ℕ → ℕ → ℕ) → ℕ → ℕ
 listed_at next t = slice_index (listed next (suc t)) t
-
--- a window holds the last sixteen of the words w before word t, word k in slot k % 16
-pub record IsWindow (w : ℕ → ℕ) (window : List ℕ) (t : ℕ) : Type 0 where
-  pub sixteen : length window ≡ 16
-  pub held : (k : ℕ) → k < t → t ≤ k + 16 → slice_index window (k % 16) ≡ w k
-
--- before round t: the window holds the words w before word t, and v the variables after t rounds
-pub record IsBefore (w : ℕ → ℕ) (rounds : ℕ → List ℕ) (window v : List ℕ) (t : ℕ) : Type 0 where
-  pub words : IsWindow w window t
-  pub variables : v ≡ rounds t
-
--- the words of the block, each of w bits, are the first n of front and those of padding past them
--- (5.2)
-pub record IsBlockOf (w n : ℕ) (front padding block : List ℕ) : Type 0 where
-  pub word : (t : ℕ) → t < 16
-      → slice_index (take n front ++ drop n padding) t ≡ word_at w block t
-
--- words 4 g to 4 g + 3 of w
-abbrev pub four : (ℕ → ℕ) → ℕ → List ℕ
-four w g = w (4 * g) ∷ w (4 * g + 1) ∷ w (4 * g + 2) ∷ w (4 * g + 3) ∷ []
-
--- words 4 g to 4 g + 15 of w, in fours
-abbrev pub sixteen : (ℕ → ℕ) → ℕ → List (List ℕ)
-sixteen w g = four w g ∷ four w (g + 1) ∷ four w (g + 2) ∷ four w (g + 3) ∷ []
-
--- sums has the last sixteen of the sums s before sum 4 n, in fours: four g at place g % 4
-pub record HoldsSums (s : ℕ → ℕ) (sums : List (List ℕ)) (n : ℕ) : Type 0 where
-  pub fours : length sums ≡ 4
-  pub held : (g : ℕ) → g < n → n ≤ g + 4 → array_at sums (g % 4) ≡ four s g
-
--- before round 4 g: the sums s from 4 g on, and v are the variables after 4 g rounds
-pub record IsSummed (s : ℕ → ℕ) (rounds : ℕ → List ℕ) (sums : List (List ℕ)) (v : List ℕ) (g : ℕ)
-    : Type 0 where
-  pub ready : HoldsSums s sums (g + 4)
-  pub variables : v ≡ rounds (4 * g)
-
--- before round 4 g: the sixteen words of w from 4 g on, in fours, and their sums s
-pub record IsReady (w s : ℕ → ℕ) (words sums : List (List ℕ)) (g : ℕ) : Type 0 where
-  pub sixteen : words ≡ sixteen w g
-  pub ready : HoldsSums s sums (g + 4)
-
--- the same, and v are the variables after 4 g rounds
-pub record IsAhead (w s : ℕ → ℕ) (rounds : ℕ → List ℕ) (words sums : List (List ℕ)) (v : List ℕ)
-    (g : ℕ) : Type 0 where
-  pub schedule : IsReady w s words sums g
-  pub variables : v ≡ rounds (4 * g)

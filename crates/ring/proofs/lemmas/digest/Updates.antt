@@ -135,12 +135,12 @@ abbrev pub IsUpdatedAt : List (Bor (List ℕ)) → ℕ → Context → Context �
 IsUpdatedAt pieces k old new = IsUpdated old new (message_at pieces k)
 
 -- what holds at the places of two lists, at those of one after the other
-changes-append : (old new olds news : List Context) (P Q R : ℕ → Context → Context → Type 0)
+changes-append : {P Q R : ℕ → Context → Context → Type 0} (old new olds news : List Context)
     → length new ≡ length old → EachChange old new P → EachChange olds news Q
     → ((k : ℕ) (x y : Context) → k < length old → P k x y → R k x y)
-    → ((k : ℕ) (x y : Context) → Q k x y → R (length old + k) x y)
+    × ((k : ℕ) (x y : Context) → Q k x y → R (length old + k) x y)
     → EachChange (old ++ olds) (new ++ news) R
-changes-append old new olds news P Q R same first second front back =
+changes-append old new olds news same first second both =
     grind (arith, get_or-append_right, get_or_append_left, length-append)
 
 -- the contexts of two lists, one after the other
@@ -156,12 +156,13 @@ updated-append {old} {new} {olds} {news} ps qs as_many first second =
         length-append old olds,
         length-append new news,
       );
-      each = changes-append old new olds news (IsUpdatedAt ps) (IsUpdatedAt qs)
-          (IsUpdatedAt (ps ++ qs)) first.count first.each second.each
-          (λ k x y below is. rw ((message_at-both ps qs k).0 (omega (arith, as_many, below))) is)
-          (λ k x y is.
-          let back : length old + k - length ps ≡ k = omega (arith, as_many) in
-          rw ((message_at-both ps qs (length old + k)).1 (omega (arith, as_many)), back) is);
+      each = changes-append {P = IsUpdatedAt ps} {Q = IsUpdatedAt qs} {R = IsUpdatedAt (ps ++ qs)}
+          old new olds news first.count first.each second.each (
+            λ k x y below is. rw ((message_at-both ps qs k).0 (omega (arith, as_many, below))) is,
+            λ k x y is.
+                let back : length old + k - length ps ≡ k = omega (arith, as_many) in
+                rw ((message_at-both ps qs (length old + k)).1 (omega (arith, as_many)), back) is,
+          );
     }
 
 -- the context at a place has no begun block, or nothing is left of the piece there

@@ -1,6 +1,6 @@
 -- SPDX-License-Identifier: ISC
 -- What holds at the places of a list, and what a meter rises by there.
-use Rattle.std.proofs.Common.{◌≡◌, ℕ, ◌+◌, ◌<◌, [], List, arith, drop, get_or, length, refl}
+use Rattle.std.proofs.Common.{◌≡◌, ℕ, ◌+◌, ◌<◌, [], List, arith, drop, get_or, length}
 use Rattle.std.proofs.Common.{slice_set, take, get_or-set_other, Bor}
 use Rattle.std.proofs.lemmas.Grind.{common_steps}
 use Rattle.ring.specs.Prelude.{Counts, raised, sum_below}
@@ -38,4 +38,4 @@ risen-none {m} = record { cost = raised-none m }
 -- and by what belongs to the next
 pub risen-next : {f : ℕ → ℕ} {m : ℕ} {before now after : Counts} → HasRisen f m before now
     → after ≡ raised now (f m) 0 → HasRisen f (m + 1) before after
-risen-next {f} {m} h e = record { cost = raised-sum _ _ _ _ _ h.cost e (sum_below-next f m) refl }
+risen-next {f} {m} h e = record { cost = raised-sum _ _ _ h.cost e (sum_below-next f m) }

@@ -10,7 +10,7 @@ use Rattle.ring.specs.Prelude.{output_len, pbkdf2_t, raised, round_on, rounds_be
 use Rattle.ring.proofs.lemmas.pbkdf2.Iterates.{length-pbkdf2_t}
 use Rattle.ring.proofs.Pieces.{IsEven, joined_blocks-none, joined_blocks-part, length-joined_blocks}
 use Rattle.ring.proofs.Rows.{output_len-positive}
-use Rattle.ring.proofs.Sums.{raised-sum, sum_below-next, sum_below-none}
+use Rattle.ring.proofs.Sums.{raised-both, sum_below-next, sum_below-none}
 use Rattle.ring.proofs.lemmas.pbkdf2.Taking.{takes-at, takes-none, takes-same}
 
 -- one product more
@@ -207,8 +207,8 @@ pub raised-on : {a : Algorithm} {n : ℕ} {r : Round} (is : IsRound a n r) (b : 
     → m2 ≡ raised m1 (sum_below (λ i. b (round_on a n r i).place) k) 0
     → m2 ≡ raised m0 (blocks_before a b n (round_on a n r k)) q
 raised-on {a} {n} {r} is b k m0 q before made =
-    raised-sum m0 (blocks_before a b n r) q (sum_below (λ i. b (round_on a n r i).place) k) 0
-    before made (blocks-on is b k) (omega arith)
+    raised-both m0 (blocks_before a b n r) q (sum_below (λ i. b (round_on a n r i).place) k) 0
+    (before, made) (blocks-on is b k) (omega arith)
 
 module _ {R : Type 0} {H : R → R → ℕ → List ℕ → Type 0} {a : Algorithm} {n first m : ℕ}
     {f : ℕ → ℕ → List ℕ} (even : (i : ℕ) → IsEven (f i) (output_len a)) where

@@ -90,14 +90,14 @@ added_moved {old} {new} {b} {n} x i o j =
 -- numbers of a tag's context that begins under a key
 pub has_begun : (key : Key) {raw : RawKey} {n : TagContext} {new : RawTagContext}
     → digest_named raw.algorithm ≡ Some (key_algorithm key)
-    → inner_words key ≡ raw_chaining (key_algorithm key) raw.inner
-    → outer_words key ≡ raw_chaining (key_algorithm key) raw.outer
+    → (inner_words key ≡ raw_chaining (key_algorithm key) raw.inner)
+    × (outer_words key ≡ raw_chaining (key_algorithm key) raw.outer)
     → signing_algorithm n ≡ key_algorithm key → signing_len n ≡ block_len (key_algorithm key)
     → signing_pending n ≡ 0
     → ((y : List ℕ) (k : ℕ) → tag_with n y k ≡ tag_of_inner (key_algorithm key) (outer_words key)
     (digest_after (key_algorithm key) (inner_words key) y k))
     → AreNumbersOfTag new n → HasBegun raw new
-has_begun key {raw} {new = new} named inner outer ea el ep et o =
+has_begun key {raw} {new = new} named words ea el ep et o =
     let same = sym named in
     record {
       algorithm = cc;

@@ -4,7 +4,7 @@ use Rattle.std.specs.Int.NonZero.{non_zero_u32_get}
 use Rattle.ring.specs.Prelude.{CanDerive, derive_blocks, pbkdf2_digest, raised, sum_below}
 use Rattle.ring.proofs.lemmas.pbkdf2.DerivedKeys.{can_derive-alone, key-alone, received-alone}
 use Rattle.ring.proofs.lemmas.pbkdf2.Rounds.{length-dk}
-use Rattle.ring.proofs.Sums.{raised-sum}
+use Rattle.ring.proofs.Sums.{raised-both}
 use Rattle.ring.proofs.pbkdf2.derive_in.Goals as goal
 
 pub derive_under-requires-clause-under : goal.derive_under-requires-clause-under
@@ -30,8 +30,10 @@ returns g c =
     let cost : c.derive_under.new.meter ≡ raised c.args.meter.now
     (derive_blocks (pbkdf2_digest c.args.algorithm) (length c.args.secret.now)
     (length c.args.salt.now) (non_zero_u32_get c.args.iterations) (length c.args.out.now)) 0 =
-    raised-sum _ _ _ _ _ (rw c.hmac_algorithm-hmac_algorithm.ensures at key.cost)
-    (rw same at c.derive_under.ensures.cost) (omega arith) (omega arith) in
+    raised-both _ _ _ _ _ (
+      rw c.hmac_algorithm-hmac_algorithm.ensures at key.cost,
+      rw same at c.derive_under.ensures.cost,
+    ) (omega arith) (omega arith) in
     record {
       ok = search (rules, has.0, all);
       refused = search rules;

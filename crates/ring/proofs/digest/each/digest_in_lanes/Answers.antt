@@ -1,9 +1,10 @@
 -- SPDX-License-Identifier: ISC
-use Rattle.std.proofs.Common.{◌+◌, [], arith, get_or, length, take}
+use Rattle.std.proofs.Common.{◌+◌, ◌-◌, ◌*◌, [], arith, get_or, length, take}
 use Rattle.std.proofs.lemmas.List.{take_more_set}
 use Rattle.ring.specs.Prelude.{each_blocks, initial_words, padded_blocks, words_at}
 use Rattle.ring.proofs.Each.{blocks-one, digests-more, digests-one, each_blocks-more, message-read}
-use Rattle.ring.proofs.Each.{raised-lane}
+use Rattle.ring.proofs.Each.{lanes-left}
+use Rattle.ring.proofs.Sums.{raised-sum}
 use Rattle.ring.proofs.digest.each.digest_in_lanes.Goals as goal
 
 pub finished-requires-clause-within : goal.finished-requires-clause-within
@@ -39,13 +40,18 @@ lanes-preserved g c =
     let fits = rw (message-read messages i) at (c.fewest_blocks-count.ensures i below) in
     let message = (get_or messages i record { ref_ptr = (0, 0); now = [] }).now in
     let own = padded_blocks a (length message) in
-    let next = each_blocks a (take (i + 1) messages) in
+    let made = each_blocks a (take i messages) + (length messages - i) * n in
+    let next = each_blocks a (take (i + 1) messages) + (length messages - (i + 1)) * n in
     record {
       digests = digests-more a messages i 1 c.lanes.invariant.digests
           (take_more_set c.lanes.out i c.finished.result
           (omega (arith, c.requires.within.count, c.lanes.auto.out, below)))
           (digests-one a messages i below c.finished.ensures.ok);
-      cost = raised-lane c.args.meter.now (each_blocks a (take i messages)) own next
-          (length messages) i n c.lanes.invariant.cost c.finished.ensures.cost below fits
-          (omega (arith, each_blocks-more a messages i 1, blocks-one a messages i below));
+      cost = raised-sum c.args.meter.now made (own - n) {s = next} c.lanes.invariant.cost
+          c.finished.ensures.cost (omega (
+            arith,
+            each_blocks-more a messages i 1,
+            blocks-one a messages i below,
+            lanes-left (length messages) i n own below fits,
+          ));
     }

@@ -40,6 +40,6 @@ groups-preserved g c =
           written-next c.args.messages.now at k
           (omega (arith, c.min-count.ensures, c.groups-test.true)) c.digest_all.ensures.ok
           c.groups.invariant.written write.end write.ok;
-      cost = raised-sum _ _ _ _ _ c.groups.invariant.cost cost
-          (each_blocks-more c.args.algorithm.now c.args.messages.now at k) refl;
+      cost = raised-sum _ _ _ c.groups.invariant.cost cost
+          (each_blocks-more c.args.algorithm.now c.args.messages.now at k);
     }

@@ -1,6 +1,6 @@
 -- SPDX-License-Identifier: ISC
 use Rattle.std.proofs.Common.{◌≡◌, ◌+◌, ◌-◌, ◌<◌, ◌∙◌, ℕ, ap, arith, get_or, length, slice_set}
-use Rattle.std.proofs.Common.{take, length-set, refl}
+use Rattle.std.proofs.Common.{take, length-set}
 use Rattle.ring.specs.Prelude.{Context, IsPartway, message_at, update_blocks, update_each_blocks}
 use Rattle.ring.proofs.Each.{message-read}
 use Rattle.ring.proofs.Sums.{raised-sum}
@@ -41,7 +41,7 @@ contexts-preserved c =
       room = length-set c.contexts.rests i r ∙ c.contexts.invariant.room;
       changed = begun-next x d r have below room partway c.complete_begun.ensures.ready;
       within = omega (arith, first, second, same, partway.within, within);
-      cost = raised-sum c.args.meter.now before 0 more 0 {s = after_blocks}
+      cost = raised-sum c.args.meter.now before more {s = after_blocks}
           c.contexts.invariant.cost (rw (← message-read pieces i) at c.complete_begun.ensures.cost)
-          (omega (arith, first, second, same, partway.within, within)) refl;
+          (omega (arith, first, second, same, partway.within, within));
     }

@@ -1,7 +1,7 @@
 -- SPDX-License-Identifier: ISC
 use Rattle.std.proofs.lemmas.Grind.{common_steps}
 use Rattle.std.proofs.Common.{◌≡◌, ◌+◌, ◌-◌, ◌≤◌, ◌∙◌, ap, arith, length, length-drop, take, drop}
-use Rattle.std.proofs.Common.{refl, sym, take-add}
+use Rattle.std.proofs.Common.{sym, take-add}
 use Rattle.std.proofs.lemmas.Slice.{drop-put_mid, take-put_mid}
 use Rattle.std.proofs.lemmas.List.{drop-drop, get_or-take, length-take-le, take_rest}
 use borrow.Rule.Slice.PartMut.{same_len_mid}
@@ -45,6 +45,6 @@ parts-preserved g c =
       ) (updated-append (take at pieces) _ as_many have.updated part.ok);
       others = drop-put_mid at _ now new (at + k) (omega (arith, size)) within (long ∙ sym size)
           ∙ sym (drop-drop k at now) ∙ ap (drop k) have.others ∙ drop-drop k at old;
-      cost = raised-sum _ _ _ _ _ have.cost part.cost
-          (blocks-more old pieces at k (omega (arith, enough)) (omega (arith, given))) refl;
+      cost = raised-sum _ _ _ have.cost part.cost
+          (blocks-more old pieces at k (omega (arith, enough)) (omega (arith, given)));
     }

@@ -1,6 +1,6 @@
 -- SPDX-License-Identifier: ISC
 use Rattle.std.proofs.lemmas.Grind.{common_steps}
-use Rattle.std.proofs.Common.{◌≡◌, ℕ, ◌+◌, ◌-◌, ◌*◌, ◌<◌, ◌≤◌, ◌∙◌, ap, arith, get_or, length, refl}
+use Rattle.std.proofs.Common.{◌≡◌, ℕ, ◌+◌, ◌-◌, ◌*◌, ◌<◌, ◌≤◌, ◌∙◌, ap, arith, get_or, length}
 use Rattle.std.proofs.Common.{rules, sym, take, div-le_self, le-div_iff_mul-le}
 use Rattle.std.proofs.lemmas.Nat.{le-div}
 use Rattle.std.proofs.lemmas.List.{get_or-take, length-take}
@@ -8,7 +8,7 @@ use Rattle.std.proofs.lemmas.Option.{get_or_from_slice_get}
 use Rattle.ring.specs.Prelude.{Context, HasWords, block_len, chaining_words, context_algorithm}
 use Rattle.ring.specs.Prelude.{message_at, pending_len, update_blocks, update_each_blocks}
 use Rattle.ring.specs.Prelude.{word_count, word_len, words}
-use Rattle.ring.proofs.Each.{message-read, raised-lane}
+use Rattle.ring.proofs.Each.{lanes-left, message-read}
 use Rattle.ring.proofs.Sums.{raised-sum}
 use Rattle.ring.proofs.Rows.{block_len-positive}
 use Rattle.ring.proofs.lemmas.digest.Updates.{blocks-next, blocks-take, changed-at, changed-next}
@@ -31,8 +31,8 @@ lanes-init g c =
     + (length mid - 0) * n in
     record {
       changed = changed-none _ mid;
-      cost = raised-sum c.args.meter.now before 0 (lanes * n) 0 {s = after} begun.cost
-          c.run_lanes.ensures.cost (omega (arith, same, ap (λ (z : ℕ). z * n) long)) refl;
+      cost = raised-sum c.args.meter.now before (lanes * n) {s = after} begun.cost
+          c.run_lanes.ensures.cost (omega (arith, same, ap (λ (z : ℕ). z * n) long));
     }
 
 pub go_on-requires : goal.go_on-requires
@@ -120,14 +120,15 @@ lanes-preserved g c =
     let first = blocks-next mid rests i d here there in
     let left : ℕ = update_each_blocks c.args.contexts.now c.args.pieces.now
     - update_each_blocks mid rests in
-    let made : ℕ = left + update_each_blocks (take i mid) (take i rests) in
-    let next : ℕ = left + update_each_blocks (take (i + 1) mid) (take (i + 1) rests) in
+    let made : ℕ = left + update_each_blocks (take i mid) (take i rests) + (length mid - i) * n in
+    let next : ℕ = left + update_each_blocks (take (i + 1) mid) (take (i + 1) rests)
+    + (length mid - (i + 1)) * n in
     record {
       changed = changed-next c.go_on.new.self have here (λ e.
           rw (← changed-at d e have here, message-read rests i) c.go_on.ensures.updated);
-      cost = raised-lane c.args.meter.now made (update_blocks y m) next (length mid) i n
-          c.lanes.invariant.cost (rw (← message-read rests i) at c.go_on.ensures.cost) here enough
-          (omega (arith, first, own));
+      cost = raised-sum c.args.meter.now made (update_blocks y m - n) {s = next}
+          c.lanes.invariant.cost (rw (← message-read rests i) at c.go_on.ensures.cost)
+          (omega (arith, first, own, lanes-left (length mid) i n (update_blocks y m) here enough));
     }
 
 pub returns-clause-ok : goal.returns-clause-ok

@@ -5,7 +5,7 @@ use Rattle.ring.specs.Prelude.{derive_blocks_at, hmac_digest, raised, sum_below}
 use Rattle.ring.proofs.lemmas.pbkdf2.DerivedKeys.{blocks-part, part-of, can_derive-under}
 use Rattle.ring.proofs.Each.{message_at-part}
 use Rattle.ring.proofs.lemmas.pbkdf2.Places.{items_from}
-use Rattle.ring.proofs.Sums.{raised-sum, raised_zero, sum_below-times}
+use Rattle.ring.proofs.Sums.{raised-both, raised_zero, sum_below-times}
 use Rattle.ring.proofs.lemmas.pbkdf2.Taking.{keeps-more, places-kept, takes-none, takes-places}
 use Rattle.ring.proofs.pbkdf2.each.derive_all.Goals as goal
 
@@ -58,11 +58,11 @@ keys-preserved g c =
     let cost : c.derive_under.new.meter ≡ raised c.keys.meter (sum_below (derive_blocks_at a
     (items_from at k salts) (items_from at k secrets) iterations c.args.len) k)
     (g.R.Receiver.pairs * (k * c.args.len)) =
-    raised-sum _ _ _ _ _ keys.cost derived.cost (sum_below-times _ _ _ _) (omega arith) in
+    raised-both _ _ _ _ _ (keys.cost, derived.cost) (sum_below-times _ _ _ _) (omega arith) in
     record {
       within = part.room;
       same = keeps-more h.same derived.same;
-      cost = raised-sum _ _ _ _ _ h.cost cost
+      cost = raised-both _ _ _ _ _ (h.cost, cost)
           (blocks-part a salts secrets iterations c.args.len at k) (grind arith);
       taken = takes-places h.taken (derived.ok _ keys.ok) (omega arith) (λ j below.
           rw (message_at-part secrets at k j below, message_at-part salts at k j below) refl);

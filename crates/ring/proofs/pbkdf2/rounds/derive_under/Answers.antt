@@ -1,9 +1,9 @@
 -- SPDX-License-Identifier: ISC
-use Rattle.std.proofs.Common.{◌≡◌, ◌∙◌, ◌+◌, ◌*◌, ◌-◌, ℕ, arith, length, length-take, refl, sym}
+use Rattle.std.proofs.Common.{◌≡◌, ◌∙◌, ◌+◌, ◌*◌, ◌-◌, ℕ, arith, length, length-take, sym}
 use Rattle.std.specs.Int.NonZero.{non_zero_u32_get}
 use Rattle.ring.specs.Prelude.{Output, blocks_at, bytes_at, first_blocks, len_before}
 use Rattle.ring.specs.Prelude.{nth_round}
-use Rattle.ring.proofs.Sums.{raised-sum, raised_zero, sum_below-one_more}
+use Rattle.ring.proofs.Sums.{raised-both, raised-sum, raised_zero, sum_below-one_more}
 use Rattle.ring.proofs.lemmas.pbkdf2.Rounds.{blocks-first, blocks_before, derived-none}
 use Rattle.ring.proofs.lemmas.pbkdf2.Rounds.{fewer_rounds, is_round-first, is_round-on, len-most}
 use Rattle.ring.proofs.lemmas.pbkdf2.Rounds.{len-on, mul-sum, no_rounds, raised-on, round_on-none}
@@ -76,21 +76,22 @@ rounds-preserved g c =
     let had = len_before d.len c.rounds.round in
     let has = len_before d.len c.hand_over-round.result in
     let later = 1 + 2 * (non_zero_u32_get d.iterations - 1) in
-    let written = raised-sum c.rounds.meter _ 0 (t * later) 0 c.set_starts.ensures.cost
+    let written = raised-sum c.rounds.meter _ (t * later) c.set_starts.ensures.cost
     (rw (sym c.write_rounds.auto.outputs ∙ size) at c.write_rounds.ensures.cost)
     (sum_below-one_more (first_blocks d c.rounds.round)
-    (2 * (non_zero_u32_get d.iterations - 1)) t) refl in
+    (2 * (non_zero_u32_get d.iterations - 1)) t) in
     let reached : ℕ = blocks_before d.algorithm blocks d.len (nth_round d c.rounds.round t) in
+    let pairs = mul-sum g.R.Receiver.pairs had (has - had) has
+    (rw next (omega (arith, len-on h.round t))) in
     record {
       round = rw next (is_round-on h.round t);
       up_to = rw next (up_to-on h.round h.up_to t places);
       same = keeps-more h.same handed.same;
       taken = λ p are. handed.ok c.args.receiver.now _ keys (c.write_rounds.ensures.ok p are)
           (h.taken p are);
-      cost = raised-sum _ reached _ 0 _ (raised-on h.round blocks t _ _ h.cost written)
-          handed.cost
-          (rw next (omega arith)) (mul-sum g.R.Receiver.pairs had (has - had) has
-          (rw next (omega (arith, len-on h.round t))));
+      cost = raised-both _ reached _ 0 _
+          (raised-on h.round blocks t _ _ h.cost written, handed.cost) (rw next (omega arith))
+          pairs;
     }
 
 pub rounds-smaller : goal.rounds-smaller

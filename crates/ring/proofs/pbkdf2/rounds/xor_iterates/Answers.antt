@@ -1,5 +1,5 @@
 -- SPDX-License-Identifier: ISC
-use Rattle.std.proofs.Common.{◌<◌, ◌≡◌, ◌∙◌, arith, get_or, refl, subst, sym, take}
+use Rattle.std.proofs.Common.{◌<◌, ◌≡◌, ◌∙◌, arith, get_or, subst, sym, take}
 use Rattle.std.specs.Int.NonZero.{non_zero_u32_get}
 use Rattle.ring.specs.Prelude.{HasStart, bytes_at, first_message, nth_round, output_len}
 use Rattle.ring.specs.Prelude.{pbkdf2_t}
@@ -30,8 +30,8 @@ iterates-preserved g c =
       made = λ k p s i stands first.
           made-next (h.made k p s i stands first) (c.sign_digests.ensures.ok k p stands)
           (c.xor_assign.ensures k);
-      cost = raised-sum _ _ _ _ _ h.cost c.sign_digests.ensures.cost
-          (blocks-next g.H.LaneStates.LANES c.iterates._made c.iterates.auto._made) refl;
+      cost = raised-sum _ _ _ h.cost c.sign_digests.ensures.cost
+          (blocks-next g.H.LaneStates.LANES c.iterates._made c.iterates.auto._made);
     }
 
 pub returns-clause-ok : goal.returns-clause-ok

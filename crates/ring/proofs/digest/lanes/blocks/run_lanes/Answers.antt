@@ -51,7 +51,7 @@ blocks-2-preserved g c =
           run.spare a i (now i h) c.requires.same below
           (c.blocks-2.invariant.words i h below has)
           ∙ c.blocks-2.invariant.spare i h below has;
-      cost = raised-sum _ _ _ _ _ c.blocks-2.invariant.cost run.cost (grind arith) refl;
+      cost = raised-sum _ _ _ c.blocks-2.invariant.cost run.cost (grind arith);
     }
 
 pub returns-clause-words : goal.returns-clause-words

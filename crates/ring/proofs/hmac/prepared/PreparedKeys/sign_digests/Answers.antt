@@ -1,5 +1,5 @@
 -- SPDX-License-Identifier: ISC
-use Rattle.std.proofs.Common.{arith, refl}
+use Rattle.std.proofs.Common.{arith}
 use Rattle.ring.proofs.Lanes.{signed-inside}
 use Rattle.ring.proofs.Sums.{raised-sum}
 use Rattle.ring.proofs.hmac.prepared.PreparedKeys.sign_digests.Goals as goal
@@ -13,4 +13,4 @@ returns-clause-ok g c = λ i k stands.
 
 pub returns-clause-cost : goal.returns-clause-cost
 returns-clause-cost g c =
-    raised-sum _ _ _ _ _ c.hash_digests.ensures.cost c.finish_tags.ensures.cost (grind arith) refl
+    raised-sum _ _ _ c.hash_digests.ensures.cost c.finish_tags.ensures.cost (grind arith)

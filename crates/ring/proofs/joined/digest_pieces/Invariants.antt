@@ -2,7 +2,7 @@
 use Rattle.std.proofs.Common.{take}
 use Rattle.ring.specs.Prelude.{joined}
 use Rattle.ring.proofs.Feeding.{HasFedDigest}
-use Rattle.ring.proofs.laws.digest_pieces.Given as goal
+use Rattle.ring.proofs.joined.digest_pieces.Given as goal
 
 abbrev pub invariant-pieces : goal.invariant-pieces
 invariant-pieces l =

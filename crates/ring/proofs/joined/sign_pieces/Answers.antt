@@ -5,7 +5,7 @@ use Rattle.ring.proofs.Feeding.{fed_none, fed_piece, fed_tag-more}
 use Rattle.ring.proofs.Lengths.{counted_tag}
 use Rattle.std.proofs.lemmas.Result.{on_ok_weaker}
 use Rattle.ring.proofs.Rows.{block_len-most}
-use Rattle.ring.proofs.laws.sign_pieces.Goals as goal
+use Rattle.ring.proofs.joined.sign_pieces.Goals as goal
 
 pub parts-init : goal.parts-init
 parts-init c =

@@ -3,7 +3,7 @@ use Rattle.std.proofs.Common.{[], arith, take_all}
 use Rattle.ring.proofs.Feeding.{fed_more, fed_none, fed_piece}
 use Rattle.ring.proofs.Lengths.{counted_end}
 use Rattle.std.proofs.lemmas.Result.{on_ok_weaker}
-use Rattle.ring.proofs.laws.digest_pieces.Goals as goal
+use Rattle.ring.proofs.joined.digest_pieces.Goals as goal
 
 pub pieces-init : goal.pieces-init
 pieces-init c =

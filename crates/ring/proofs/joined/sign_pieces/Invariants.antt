@@ -2,7 +2,7 @@
 use Rattle.std.proofs.Common.{take}
 use Rattle.ring.specs.Prelude.{joined}
 use Rattle.ring.proofs.Feeding.{HasFedTag}
-use Rattle.ring.proofs.laws.sign_pieces.Given as goal
+use Rattle.ring.proofs.joined.sign_pieces.Given as goal
 
 abbrev pub invariant-parts : goal.invariant-parts
 invariant-parts l =

@@ -40,11 +40,11 @@ key_room {m0} {m1} a k new short e =
     omega (arith, most, counted_new m0 m1 (key_blocks a k) 0 new e (omega (arith, most)))
 
 -- the blocks of a key of k bytes, and of the tag of n bytes
-pub tag_count : {m0 m1 m2 : Counts} (a : Algorithm) (k n pairs : ℕ) → IsNew m0 → k < 2 ^ 64
-    → n < 2 ^ 64 → m1 ≡ raised m0 (key_blocks a k) 0
+pub tag_count : {m0 m1 m2 : Counts} (a : Algorithm) (k n pairs : ℕ) → IsNew m0
+    → (k < 2 ^ 64) × (n < 2 ^ 64) → m1 ≡ raised m0 (key_blocks a k) 0
     → m2 ≡ raised m1 (padded_blocks a n + 1) pairs
     → m2.blocks ≡ key_blocks a k + (padded_blocks a n + 1)
-tag_count {m0} {m2 = m2} a k n pairs new short_k short_n e1 e2 =
+tag_count {m0} {m2 = m2} a k n pairs new short e1 e2 =
     let all = rw e1 at e2 in
     counted_new m0 m2 _ _ new (all ∙ raised-raised m0 (key_blocks a k) 0 _ pairs)
     (omega (arith, key_blocks-most a k, padded_blocks-most a n))
@@ -70,11 +70,11 @@ fill_blocks-most {a} {i} {n} few within =
     omega (arith, first, within.next_rounds, longest, short, block, most_first, most_next, all)
 
 -- the blocks of a salt, of what it extracts, and of an output of this
-pub output_count : {m0 m1 m2 m3 : Counts} (a : Algorithm) (s x i n : ℕ) → IsNew m0 → s < 2 ^ 64
-    → x < 2 ^ 64 → IsOutputWithin a n → IsInfoWithin a i n → m1 ≡ raised m0 (key_blocks a s) 0
+pub output_count : {m0 m1 m2 m3 : Counts} {a : Algorithm} {s x i n : ℕ} → IsNew m0 → s < 2 ^ 64
+    → x < 2 ^ 64 → IsOutputWithin a n × IsInfoWithin a i n → m1 ≡ raised m0 (key_blocks a s) 0
     → m2 ≡ raised m1 (padded_blocks a x + 3) 0 → m3 ≡ raised m2 (fill_blocks a i n) 0
     → m3.blocks ≡ key_blocks a s + (padded_blocks a x + 1) + 2 + fill_blocks a i n
-output_count {m0} {m3 = m3} a s x i n new short_s short_x few within e1 e2 e3 =
+output_count {m0} {m3 = m3} {a} {s} {x} {i} {n} new short_s short_x within e1 e2 e3 =
     let key : ℕ = key_blocks a s in
     let extracted : ℕ = padded_blocks a x + 3 in
     let filled : ℕ = fill_blocks a i n in
@@ -82,8 +82,9 @@ output_count {m0} {m3 = m3} a s x i n new short_s short_x few within e1 e2 e3 =
     let sum =
     all ∙ ap (λ (m : Counts). raised m filled 0) (raised-raised m0 key 0 extracted 0)
     ∙ raised-raised m0 (key + extracted) 0 filled 0 in
+    let far = fill_blocks-most within.0 within.1 in
     let most : key + extracted + filled < 2 ^ 128 =
-    omega (arith, key_blocks-most a s, padded_blocks-most a x, fill_blocks-most few within) in
+    omega (arith, key_blocks-most a s, padded_blocks-most a x, far) in
     omega (arith, counted_new m0 m3 (key + extracted + filled) 0 new sum most)
 
 -- the blocks of a derivation

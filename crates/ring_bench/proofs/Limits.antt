@@ -7,14 +7,13 @@ use Rattle.std.proofs.lemmas.Bool.Decides.{nat_tests, same_from_decides}
 use Rattle.std.specs.Str.{bytes_eq}
 use Rattle.std.proofs.lemmas.Slice.Eq.{bytes_eq-Decides}
 use Rattle.std.proofs.lemmas.Bool.{false_from_ne_true, true_from_ne_false}
-use Rattle.ring.specs.Cost.{Counts, derive_blocks, fill_blocks, key_blocks, padded_blocks, raised}
+use Rattle.ring.specs.Cost.{Counts, derive_blocks, padded_blocks, raised}
 use Rattle.ring.specs.Algorithm.{block_len, max_input_len}
 use Rattle.ring.specs.Limits.{CanDerive, CanVerify, IsInfoWithin, IsOutputWithin, IsTagWithin}
 use Rattle.ring.specs.Limits.{can_derive, can_expand, can_verify, max_okm_len}
 use Rattle.ring.specs.Okm.{CanFill}
 use Rattle.ring.specs.declared.digest.algorithm.Algorithm.{Algorithm}
 use Rattle.ring.proofs.Costs.{IsNew}
-use Rattle.ring_bench.proofs.Counts.{output_count}
 
 -- a test of a limit passes where the limit holds
 pub passes : {n most : ℕ} → n ≤ most → nat_le n most ≡ true
@@ -36,11 +35,12 @@ same_verdict {b} {t} {made} to from =
     same_from_decides b (bytes_eq t made) (to, from) (bytes_eq-Decides t made)
 
 -- the tests of lengths pass exactly where the limits hold
-can_expand-true : {a : Algorithm} {i n : ℕ} → IsOutputWithin a n → IsInfoWithin a i n
+pub can_expand-true : {a : Algorithm} {i n : ℕ} → IsOutputWithin a n × IsInfoWithin a i n
     → can_expand a i n ≡ true
-can_expand-true few h =
-    let first = h.first_round in
-    let next = h.next_rounds in
+can_expand-true h =
+    let few = h.0 in
+    let first = h.1.first_round in
+    let next = h.1.next_rounds in
     grind (arith, nat_tests)
 
 can_expand-within : (a : Algorithm) (i n : ℕ) → can_expand a i n ≡ true → IsInfoWithin a i n
@@ -129,16 +129,9 @@ module _ {a b : Algorithm} {i j n number : ℕ} (algorithm : b ≡ a) (info_len 
       rw (algorithm, info_len, asked, size)
       (record { same_len = refl; within = can_expand-within a i n e })
 
-  -- where it was filled, the test passes, and its blocks come after those of the salt and the PRK
-  pub filled : {len : ℕ} {m0 m1 m2 m3 : Counts} (s x : ℕ) → IsNew m0 → s < 2 ^ 64 → x < 2 ^ 64
-      → (max_okm_len a < n → false ≡ true) → CanFill b j number len
-      → m1 ≡ raised m0 (key_blocks a s) 0 → m2 ≡ raised m1 (padded_blocks a x + 3) 0
-      → m3 ≡ raised m2 (fill_blocks b j number) 0 → (can_expand a i n ≡ true)
-      × (m3.blocks ≡ key_blocks a s + (padded_blocks a x + 1) + 2 + fill_blocks a i n)
-  filled s x new short_s short_x refused can e1 e2 cost =
+  -- where it was filled, it was within the limits
+  pub filled : {len : ℕ} → (max_okm_len a < n → false ≡ true) → CanFill b j number len
+      → IsOutputWithin a n × IsInfoWithin a i n
+  filled refused can =
       let over = λ (h : max_okm_len a < n). true≢false (sym (refused h)) in
-      let few : IsOutputWithin a n = omega (arith, over) in
-      let within : IsInfoWithin a i n =
-      rw (algorithm, info_len, can.same_len, asked) at can.within in
-      let e3 = rw (algorithm, info_len, asked) at cost in
-      (can_expand-true few within, output_count a s x i n new short_s short_x few within e1 e2 e3)
+      (omega (arith, over), rw (algorithm, info_len, can.same_len, asked) at can.within)

@@ -187,12 +187,13 @@ module _ {start piece rest line : List ℕ} {s t : Status} {a b : Option (List �
 
 -- the open line was answered
 pub open-answered : (line : List ℕ) (s : Status) {t : Status} (a b c : Option (List ℕ))
-    → HasNoLineFeed line → 0 < length line → Appends a b (reply (without_return line))
-    → Keeps b c → t ≡ status_after s (without_return line ∷ [])
+    → HasNoLineFeed line × (0 < length line)
+    → Appends a b (reply (without_return line)) × Keeps b c
+    → t ≡ status_after s (without_return line ∷ [])
     → Appends a c (replies (lines line)) × (t ≡ status_after s (lines line))
-open-answered line s a b c none some written kept status =
-    let all = Appends-kept a b c (reply (without_return line)) written kept in
-    rw (one_line line none some, append-nil (reply (without_return line))) (all, status)
+open-answered line s a b c is kept status =
+    let all = Appends-kept a b c (reply (without_return line)) kept.0 kept.1 in
+    rw (one_line line is.0 is.1, append-nil (reply (without_return line))) (all, status)
 
 -- no line was open
 pub none-answered : (line : List ℕ) (s : Status) (a b : Option (List ℕ)) → length line ≡ 0

@@ -8,7 +8,7 @@ ghost use Rattle.ring_merkle.specs.Consistency.{first_node};
 ghost use Rattle.ring_merkle.specs.Cost.{both_blocks, consistency_blocks};
 ghost use Rattle.ring_merkle.specs.Gives.{VerifiesConsistency};
 
-use crate::hash::HASH_LEN;
+use crate::hash::{HASH_LEN, is_same};
 use crate::place::Place;
 use ring::cost::Meter;
 use ring::laws::digest_has_output_len;
@@ -33,7 +33,7 @@ fn leads_to_both(
     }
     let front = start.climb(false, hash, path, meter);
     let whole = start.climb(true, hash, path, meter);
-    front == *first && whole == *second
+    is_same(&front, first) && is_same(&whole, second)
 }
 
 // The place where the steps begin.

@@ -2,7 +2,7 @@
 //! The hashes of leaves and nodes (RFC 9162, section 2.1.1).
 
 ghost use Rattle.std.specs.Prelude.{◌≡◌, ◌↔◌, ◌<◌, ◌+◌, [], ℕ, List, length, IfOk, IsErr, OnErr};
-ghost use Rattle.std.specs.Prelude.{OnOk};
+ghost use Rattle.std.specs.Prelude.{IsTrue, OnOk};
 ghost use Rattle.ring.specs.Prelude.{IsDigest, digest_algorithm, joined, max_input_len};
 ghost use Rattle.ring.specs.Prelude.{padded_blocks, raised};
 ghost use Rattle.ring.specs.declared.digest.algorithm.TheConstants.{SHA256};
@@ -16,6 +16,19 @@ use ring::laws::digest_pieces;
 
 /// The length of a hash in bytes.
 pub const HASH_LEN: usize = SHA256_OUTPUT_LEN;
+
+// Whether both hashes are the same. It ends at the first byte that differs: what a tree hashes is
+// public.
+pub(crate) fn is_same(one: &[u8; HASH_LEN], other: &[u8; HASH_LEN]) -> bool
+    ensures { IsTrue result ↔ one.now ≡ other.now }
+{
+    for at in 0..HASH_LEN {
+        if one[at] != other[at] {
+            return false;
+        }
+    }
+    true
+}
 
 // The bytes of a digest under SHA-256.
 fn hash_of(digest: &Digest) -> [u8; HASH_LEN]

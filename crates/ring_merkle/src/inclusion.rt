@@ -7,7 +7,7 @@ ghost use Rattle.ring_merkle.specs.Cost.{inclusion_blocks};
 ghost use Rattle.ring_merkle.specs.Gives.{VerifiesInclusion};
 ghost use Rattle.ring_merkle.specs.Inclusion.{IsIncluded};
 
-use crate::hash::HASH_LEN;
+use crate::hash::{HASH_LEN, is_same};
 use crate::place::Place;
 use ring::cost::Meter;
 use ring::laws::digest_has_output_len;
@@ -34,7 +34,7 @@ fn is_included(
     if path.len() != start.path_len() {
         return false;
     }
-    start.climb(true, hash, path, meter) == *root
+    is_same(&start.climb(true, hash, path, meter), root)
 }
 
 /// Verifies a path as [`verify_inclusion`] does, and counts its blocks on `meter`: two for each

@@ -31,7 +31,7 @@ pub record_then-injective : {e f : List ℕ × Record} {s t : List ℕ} → IsEn
 unfolding record_then
 record_then-injective {e} {f} he hf same =
     let name = hex_then-injective 32 refl he.name_bytes hf.name_bytes same in
-    let count = count_then-injective 32 (λ h. omega arith) e.1.iterations f.1.iterations _ _
+    let count = count_then-injective 32 (λ h. omega arith) e.1.iterations f.1.iterations
     he.iterations hf.iterations name.1 in
     let last = hex_then-injective 10 refl he.credential_bytes hf.credential_bytes count.1 in
     ((λ i. (name.0 i, record { iterations = count.0 i; credential = last.0 i })), last.1)
@@ -41,7 +41,7 @@ pub head_then-injective : {x y : List ℕ} {c d : NonZeroU32} {s t : List ℕ} �
 unfolding head_then
 head_then-injective {c} {d} hx hy same =
     let salt = hex_then-injective 32 refl hx.salt_bytes hy.salt_bytes (ap (drop 13) same) in
-    let count = count_then-injective 10 (λ h. omega arith) c d _ _ hx.iterations hy.iterations
+    let count = count_then-injective 10 (λ h. omega arith) c d hx.iterations hy.iterations
     salt.1 in
     (salt.0, count.0, count.1)
 

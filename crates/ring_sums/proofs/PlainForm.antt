@@ -85,9 +85,9 @@ pub plain-same : {asked : Option Algorithm} {line : List ℕ} {a b : Algorithm} 
     → (a ≡ b) × (d ≡ e) × (r ≡ s)
 plain-same {asked} {line} {a} {b} {d} {e} {r} {s} one two =
     let P : ℕ → Type 0 = λ byte. is_ascii_hexdigit byte ≡ true in
-    let run = run_same P one.space two.space
+    let run = run_same P {x = one.space} {y = two.space}
     (λ is. true≢false (sym is ∙ white-no_digit one.space one.white))
-    (λ is. true≢false (sym is ∙ white-no_digit two.space two.white)) d e r s
+    (λ is. true≢false (sym is ∙ white-no_digit two.space two.white)) d e
     (AllPass-from_list_all is_ascii_hexdigit d one.are_digits)
     (AllPass-from_list_all is_ascii_hexdigit e two.are_digits) (sym one.whole ∙ two.whole) in
     let same = same_Some a b (sym one.algorithm

@@ -1,8 +1,8 @@
 -- SPDX-License-Identifier: ISC
 -- A text cut at a byte, or behind a prefix, is cut in one way.
 use Rattle.std.proofs.Common.{◌≡◌, ◌≢◌, ◌==◌, ℕ, Bool, true, false, List, [], ◌∷◌, ◌++◌, drop}
-use Rattle.std.proofs.Common.{arith, refl, sym, ap, subst, ◌∙◌, Bor}
-use Rattle.std.specs.Prelude.{Some, None, Option, IfSome, IsNone, MatchOption, All, not}
+use Rattle.std.proofs.Common.{arith, refl, sym, ap, subst, ◌∙◌}
+use Rattle.std.specs.Prelude.{All, not}
 use Rattle.std.specs.List.{list_all}
 use Rattle.std.proofs.lemmas.Bool.{eq-eqb, not-true}
 use Rattle.std.proofs.lemmas.List.Elements.{All-head, All-tail, All-weaker}
@@ -30,19 +30,20 @@ first_of_list d (x ∷ xs) = x
 
 -- a run of what P holds of, the first of which it does not hold, and the rest are known from the
 -- whole
-pub run_same : (P : ℕ → Type 0) (x y : ℕ) → (P x → ⊥) → (P y → ⊥) → (f g s t : List ℕ) → All P f
-    → All P g → f ++ x ∷ s ≡ g ++ y ∷ t → (f ≡ g) × (x ≡ y) × (s ≡ t)
-run_same P x y nx ny [] [] s t hf hg e = (refl, ap (first_of_list 0) e, ap (drop 1) e)
-run_same P x y nx ny [] (b ∷ g) s t hf hg e = grind (arith, All-head P b g hg, nx)
-run_same P x y nx ny (a ∷ f) [] s t hf hg e = grind (arith, All-head P a f hf, ny)
-run_same P x y nx ny (a ∷ f) (b ∷ g) s t hf hg e =
-    grind (arith, run_same P x y nx ny f g s t (All-tail P a f hf) (All-tail P b g hg))
+module _ (P : ℕ → Type 0) {x y : ℕ} {s t : List ℕ} (nx : P x → ⊥) (ny : P y → ⊥) where
+  pub run_same : (f g : List ℕ) → All P f → All P g → f ++ x ∷ s ≡ g ++ y ∷ t
+      → (f ≡ g) × (x ≡ y) × (s ≡ t)
+  run_same [] [] hf hg e = (refl, ap (first_of_list 0) e, ap (drop 1) e)
+  run_same [] (b ∷ g) hf hg e = grind (arith, All-head P b g hg, nx)
+  run_same (a ∷ f) [] hf hg e = grind (arith, All-head P a f hf, ny)
+  run_same (a ∷ f) (b ∷ g) hf hg e =
+      grind (arith, run_same f g (All-tail P a f hf) (All-tail P b g hg))
 
 -- what stands before the first such byte, and behind it, is known from the whole
 pub cut_same : (byte : ℕ) (f g s t : List ℕ) → IsWithout byte f → IsWithout byte g
     → f ++ byte ∷ s ≡ g ++ byte ∷ t → (f ≡ g) × (s ≡ t)
 cut_same byte f g s t hf hg e =
-    let run = run_same (NotAt byte) byte byte (apart byte) (apart byte) f g s t hf hg e in
+    let run = run_same (NotAt byte) (apart byte) (apart byte) f g hf hg e in
     (run.0, run.2)
 
 -- a text without the byte is not cut at it
@@ -60,11 +61,3 @@ pub first_cut : {end : ℕ} {text before behind : List ℕ} → IsFirstCut end t
     → (before ≡ field) × (behind ≡ rest)
 first_cut {end} {text} {before} {behind} cut field rest h e =
     cut_same end before field behind rest cut.first h (sym cut.whole ∙ e)
-
--- what a strip of a prefix says, by cases
-pub stripped : (r : Option (Bor (List ℕ))) (text prefix : List ℕ)
-    → MatchOption r ((rest : List ℕ) → text ≢ prefix ++ rest) (λ x. text ≡ prefix ++ x.now)
-    → IfSome r (λ rest. text ≡ prefix ++ rest.now)
-    × (IsNone r → (rest : List ℕ) → text ≢ prefix ++ rest)
-stripped None text prefix h = (tt, λ _. h)
-stripped (Some x) text prefix h = (h, λ none. cc none)

@@ -50,7 +50,7 @@ module _ {x y : ℕ} {s t : List ℕ} (nx : IsDigit x → ⊥) (ny : IsDigit y �
   pub number_same : (m n : ℕ) → m < 2 ^ 32 → n < 2 ^ 32
       → number_then m x s ≡ number_then n y t → (m ≡ n) × (x ≡ y) × (s ≡ t)
   number_same m n hm hn e =
-      let run = run_same IsDigit x y nx ny (decimal m) (decimal n) s t (All-decimal m hm)
+      let run = run_same IsDigit nx ny (decimal m) (decimal n) (All-decimal m hm)
       (All-decimal n hn) e in
       (decimal_injective m n (omega arith) (omega arith) run.0, run.1, run.2)
 
@@ -60,10 +60,9 @@ module _ {x y : ℕ} {s t : List ℕ} (nx : IsDigit x → ⊥) (ny : IsDigit y �
       let read = number_same (non_zero_u32_get c) (non_zero_u32_get d) hc hd e in
       (same_count c d read.0, read.1, read.2)
 
-pub count_then-injective : (end : ℕ) → (IsDigit end → ⊥) → (c d : NonZeroU32)
-    → (s t : List ℕ) → IsCount c → IsCount d → count_then c end s ≡ count_then d end t
-    → (c ≡ d) × (s ≡ t)
-count_then-injective end none c d s t hc hd e =
+pub count_then-injective : (end : ℕ) → (IsDigit end → ⊥) → (c d : NonZeroU32) {s t : List ℕ}
+    → IsCount c → IsCount d → count_then c end s ≡ count_then d end t → (c ≡ d) × (s ≡ t)
+count_then-injective end none c d hc hd e =
     let read = count_same none none c d hc hd e in
     (read.0, read.2)
 

@@ -9,10 +9,10 @@ ghost use Rattle.std.specs.declared.num.NonZeroU32.{NonZeroU32};
 ghost use Rattle.ring_text.specs.Field.{IsCount, count_then, number_then};
 
 use crate::cut::cut_at;
+use crate::number::number_in;
 use itoa::Buffer;
 use std::alloc::{AllocError, Allocator};
 use std::num::NonZeroU32;
-use std::str;
 
 /// Appends `number` in decimal to `out`, and then the byte `end`. Refused only for want of memory.
 pub fn append_number<A: Allocator>(
@@ -46,15 +46,10 @@ pub fn count_in(digits: &[u8]) -> Option<NonZeroU32>
     ensures refused { IsNone result → (c : NonZeroU32) → IsCount c
         → digits.now ≢ decimal (non_zero_u32_get c) }
 {
-    let Ok(text) = str::from_utf8(digits) else {
+    let number = number_in(digits)?;
+    let Ok(count) = u32::try_from(number) else {
         return None;
     };
-    let Ok(count) = text.parse::<u32>() else {
-        return None;
-    };
-    if Buffer::new().format(count).as_bytes() != digits {
-        return None;
-    }
     NonZeroU32::new(count)
 }
 

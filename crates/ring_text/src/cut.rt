@@ -4,6 +4,7 @@
 ghost use Rattle.std.specs.Prelude.{◌≡◌, ◌≢◌, ℕ, List, ◌++◌, IfSome, IsNone};
 ghost use Rattle.ring_text.specs.Cut.{IsFirstCut, IsWithout};
 
+use crate::same::is_same;
 use memchr::memchr;
 
 /// The text before the first `byte` of `text` and the text after it, or `None` if there is none.
@@ -22,5 +23,12 @@ pub fn after<'a>(text: &'a [u8], prefix: &[u8]) -> Option<&'a [u8]>
     ensures ok { IfSome result (λ rest. text.now ≡ prefix.now ++ rest.now) }
     ensures refused { IsNone result → (rest : List ℕ) → text.now ≢ prefix.now ++ rest }
 {
-    text.strip_prefix(prefix)
+    if text.len() < prefix.len() {
+        return None;
+    }
+    let (front, rest) = text.split_at(prefix.len());
+    if !is_same(front, prefix) {
+        return None;
+    }
+    Some(rest)
 }

@@ -9,7 +9,11 @@
 mod count;
 mod cut;
 mod lower_hex;
+mod number;
+mod same;
 
 pub use crate::count::{append_count, append_number, count_before, count_in};
 pub use crate::cut::{after, cut_at};
 pub use crate::lower_hex::fill_from_hex;
+pub use crate::number::number_in;
+pub use crate::same::is_same;

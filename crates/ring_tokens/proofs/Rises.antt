@@ -4,6 +4,7 @@ use Rattle.std.proofs.Common.{◌≡◌, ◌≤◌, ◌∙◌, ℕ, ◌+◌, ◌
 use Rattle.std.proofs.Common.{subst, sym}
 use Rattle.std.proofs.lemmas.List.{length-append}
 use Rattle.ring.proofs.Costs.{raised-none, raised-raised}
+use Rattle.ring.proofs.Rows.{output_len-fits}
 use Rattle.ring.specs.Prelude.{Counts, IsTagWithin, compared_pairs, raised}
 use Rattle.ring.specs.declared.digest.algorithm.Algorithm.{Algorithm}
 use Rattle.ring.specs.declared.digest.algorithm.TheConstants.{SHA256}
@@ -117,3 +118,6 @@ stripe_cost m0 {a = a} digits body its n alg message same one two =
     ∙ ap (λ x. raised m0 (tag_blocks x (length (digits ++ 46 ∷ (body ++ [])))) pairs) alg
     ∙ ap (λ m. raised m0 (tag_blocks SHA256 (length m)) pairs) message
     ∙ ap (λ t. raised m0 b (32 * length (items_of t))) same
+
+-- a tag has at most 64 bytes
+pub ruleset tag_lens = (output_len-fits)

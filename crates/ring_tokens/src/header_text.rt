@@ -7,6 +7,7 @@ ghost use Rattle.ring_tokens.specs.InPlace.{IsUsualText};
 ghost use Rattle.ring_tokens.specs.Jws.{base64url};
 
 use crate::alg::Alg;
+use ring_text::is_same;
 
 /// The bytes of [`usual_text`].
 pub(crate) const USUAL_TEXT_LEN: usize = 36;
@@ -48,5 +49,7 @@ fn bare_text(alg: Alg) -> &'static [u8]
 pub(crate) fn is_usual_text(alg: Alg, text: &[u8]) -> bool
     ensures { IsTrue result ↔ IsUsualText alg text.now }
 {
-    text == usual_text(alg) || text == older_text(alg) || text == bare_text(alg)
+    is_same(text, usual_text(alg))
+        || is_same(text, older_text(alg))
+        || is_same(text, bare_text(alg))
 }

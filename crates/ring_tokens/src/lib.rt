@@ -25,7 +25,6 @@ mod header_text;
 pub mod jws;
 mod key;
 pub mod laws;
-mod number;
 pub mod otp;
 mod parts;
 mod put;

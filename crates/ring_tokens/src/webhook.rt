@@ -1,5 +1,5 @@
 // SPDX-License-Identifier: ISC
-//! The headers with which GitHub and Stripe sign what they send to a webhook.
+//! The headers with which GitHub, Stripe and others sign what they send to a webhook.
 //!
 //! An empty secret is refused where a [`SharedSecret`] is made, so no header verifies under it.
 
@@ -7,25 +7,21 @@ ghost use Rattle.std.specs.Prelude.{◌≡◌, ◌≢◌, ◌↔◌, ℕ, ◌<�
 ghost use Rattle.std.specs.Prelude.{IfSome, IsNone, IsOk, IsTrue};
 ghost use Rattle.std.specs.Fmt.{decimal};
 ghost use Rattle.hex.specs.Hex.{IsBytes, encode_lower};
-ghost use Rattle.ring.specs.Prelude.{IsTagWithin, raised};
+ghost use Rattle.ring.specs.Prelude.{IsTagWithin, output_len, raised};
 ghost use Rattle.ring.specs.declared.digest.algorithm.TheConstants.{SHA256};
 ghost use Rattle.ring_tokens.specs.Cost.{tag_blocks};
 ghost use Rattle.ring_tokens.specs.Secret.{IsSecret, secret_algorithm};
-ghost use Rattle.ring_tokens.specs.Webhook.{IsGithub, IsStripe, has_item, items_of};
+ghost use Rattle.ring_tokens.specs.Webhook.{IsGithub, IsHex, IsStripe, has_item, items_of};
 ghost use Rattle.ring_tokens.specs.Webhook.{stripe_item, stripe_message, timestamp_then};
 
-use crate::number::number_in;
 use crate::secret::SharedSecret;
 use ring::bb::verify_slices_are_equal_counted;
 use ring::cost::Meter;
-use ring::digest::SHA256;
+use ring::digest::{MAX_OUTPUT_LEN, SHA256};
 use ring::error::Unspecified;
 use ring::hmac;
 use ring::laws::sign_pieces;
-use ring_text::{after, cut_at, fill_from_hex};
-
-// The bytes of a tag.
-const TAG_LEN: usize = 32;
+use ring_text::{after, cut_at, fill_from_hex, number_in};
 
 // Reads a name and the hex of as many bytes as `out` has. If it returns false, `out` may have any
 // bytes.
@@ -44,20 +40,61 @@ fn fill_named(name: &[u8], text: &[u8], out: &mut [u8]) -> bool
 // digits are looked up in a table. All bytes of the tag are compared, whatever the text is, so that
 // only the answer depends on the tag.
 fn is_named(name: &[u8], tag: &[u8], text: &[u8], meter: &mut Meter) -> bool
-    requires { length tag.now ≡ 32 }
+    requires { length tag.now ≤ MAX_OUTPUT_LEN }
     ensures ok { IsTrue result ↔ (text.now ≡ name.now ++ encode_lower tag.now) }
-    ensures cost { meter.new ≡ raised meter.old 0 32 }
+    ensures cost { meter.new ≡ raised meter.old 0 (length tag.now) }
 {
-    let mut given = [0; TAG_LEN];
-    let is_read = fill_named(name, text, &mut given);
-    let is_same = verify_slices_are_equal_counted(tag, &given, meter).is_ok();
+    let mut room = [0; MAX_OUTPUT_LEN];
+    let given = &mut room[..tag.len()];
+    let is_read = fill_named(name, text, given);
+    let is_same = verify_slices_are_equal_counted(tag, given, meter).is_ok();
     is_same && is_read
+}
+
+/// Verifies a header as [`verify_hex`] does, and counts the blocks of the body's tag and the
+/// compared pairs of bytes on `meter`: those of a whole tag, whatever the header is. Where the body
+/// is too long, `meter` is as it was.
+#[tactic(auto, using(crate::proofs::Rises::rise_compared, crate::proofs::Rises::tag_lens))]
+pub fn verify_hex_counted(
+    secret: &SharedSecret,
+    prefix: &[u8],
+    body: &[u8],
+    header: &[u8],
+    meter: &mut Meter,
+) -> Result<(), Unspecified>
+    ensures ok { (k : List ℕ) → IsSecret secret.now k → IsOk result
+        ↔ IsHex (secret_algorithm secret.now) k prefix.now body.now header.now }
+    ensures cost { let a = secret_algorithm secret.now in IsTagWithin a (length body.now)
+        → meter.new ≡ raised meter.old (tag_blocks a (length body.now)) (output_len a) }
+    ensures unchanged { (IsTagWithin (secret_algorithm secret.now) (length body.now) → ⊥)
+        → meter.new ≡ meter.old }
+{
+    let tag = hmac::sign_counted(&secret.key, body, meter)?;
+    if !is_named(prefix, tag.as_ref(), header, meter) {
+        return Err(Unspecified);
+    }
+    Ok(())
+}
+
+/// Returns Ok exactly if `header` is `prefix` and behind it the body's tag in hex, in lower case.
+/// The tag is by the secret's algorithm.
+///
+/// Refused where the header is another one, and where HMAC does not admit the body.
+pub fn verify_hex(
+    secret: &SharedSecret,
+    prefix: &[u8],
+    body: &[u8],
+    header: &[u8],
+) -> Result<(), Unspecified>
+    ensures ok { (k : List ℕ) → IsSecret secret.now k → IsOk result
+        ↔ IsHex (secret_algorithm secret.now) k prefix.now body.now header.now }
+{
+    verify_hex_counted(secret, prefix, body, header, &mut Meter::new())
 }
 
 /// Verifies a header as [`verify_github`] does, and counts the blocks of the body's tag and the
 /// compared pairs of bytes on `meter`: those of a whole tag, whatever the header is. Where the
 /// secret is for another algorithm or the body is too long, `meter` is as it was.
-#[tactic(auto, using(crate::proofs::Rises::rise_compared))]
 pub fn verify_github_counted(
     secret: &SharedSecret,
     body: &[u8],
@@ -74,11 +111,7 @@ pub fn verify_github_counted(
     if secret.key.algorithm().digest_algorithm() != SHA256 {
         return Err(Unspecified);
     }
-    let tag = hmac::sign_counted(&secret.key, body, meter)?;
-    if !is_named(b"sha256=", tag.as_ref(), header, meter) {
-        return Err(Unspecified);
-    }
-    Ok(())
+    verify_hex_counted(secret, b"sha256=", body, header, meter)
 }
 
 /// Returns Ok exactly if `header` is what GitHub sends as `X-Hub-Signature-256` with a body:

@@ -9,7 +9,8 @@ use Rattle.ring.specs.Okm.{okm_algorithm, okm_info_len}
 use Rattle.ring.specs.Pieces.{joined}
 use Rattle.ring.specs.Limits.{can_expand}
 use Rattle.ring_bench.specs.Request.{output_answer}
-use Rattle.ring_bench.proofs.Limits.{can_fill, filled, not_refused}
+use Rattle.ring_bench.proofs.Counts.{output_count}
+use Rattle.ring_bench.proofs.Limits.{can_expand-true, can_fill, filled, not_refused}
 use Rattle.ring_bench.proofs.request.respond_hkdf.Goals as goal
 
 pub returns-in-Ok-fill_counted : goal.returns-in-Ok-fill_counted
@@ -35,15 +36,17 @@ returns-in-Ok-fill_counted g c =
     ≡ okm (okm_algorithm c.in-Ok-expand.output) (hmac_of (salt_algorithm c.in-Ok.salt) s x)
     (joined c.deref.result.now) c.args.len =
     rw room (kept ∙ end.ok _ _ _ (asked.ok _ (prk.ok s salt.ok))) in
-    let (can, count) =
-    filled algorithm info_len asked.asked_len (length s) (length x) c.new-meter.ensures
-    (search rules) (search rules)
-    (rw (prk.algorithm, salt.algorithm) at asked.refused.1) (end.refused.0 refl) salt.cost
-    (rw salt.algorithm at prk.cost) end.cost in
+    let within =
+    filled algorithm info_len asked.asked_len
+    (rw (prk.algorithm, salt.algorithm) at asked.refused.1) (end.refused.0 refl) in
+    let count =
+    output_count {s = length s} {x = length x} c.new-meter.ensures (search rules) (search rules)
+    within salt.cost (rw salt.algorithm at prk.cost)
+    (rw (algorithm, info_len, asked.asked_len) at end.cost) in
     let shown = c.blocks-in-Ok-fill_counted.ensures in
     let salted = salt.algorithm in
     let refused = rw salt.algorithm at prk.refused in
-    rw (not_refused salt.refused.1, not_refused refused.1, can)
+    rw (not_refused salt.refused.1, not_refused refused.1, can_expand-true within)
     (cc (made, algorithm, salted, same, count, shown))
 
 pub returns : goal.returns

@@ -23,7 +23,7 @@ returns-in-Ok-sign_pieces g c =
     grind (arith, common_steps, made, same, algorithm) in
     let cost = rw (algorithm, same) at end.cost in
     let count =
-    tag_count a (length k) (length m) 0 c.new-meter.ensures (search rules) (search rules) key.cost
+    tag_count a (length k) (length m) 0 c.new-meter.ensures (search rules, search rules) key.cost
     cost in
     let shown = c.blocks-in-Ok-sign_pieces.ensures in
     let refused = rw (algorithm, same) at end.refused in

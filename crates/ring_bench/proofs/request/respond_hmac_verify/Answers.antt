@@ -37,7 +37,7 @@ returns g c =
     let own : IsTagWithin (key_algorithm c.in-Ok.key) n =
     subst (λ (x : Algorithm). IsTagWithin x n) (sym algorithm) within in
     let count =
-    tag_count a (length k) n _ c.new-meter.ensures (search rules) (search rules) key.cost
+    tag_count a (length k) n _ c.new-meter.ensures (search rules, search rules) key.cost
     (cost within) in
     let shown = c.blocks-3.ensures in
     let told = c.is_ok-is_tag.ensures.value in

@@ -31,14 +31,14 @@ both : (fn sn : ℕ) (path : List (List ℕ)) (m : Counts) {m1 m2 : Counts}
     → m2 ≡ raised m (both_blocks fn sn path) 0
 both fn sn path m len e f = grind (arith, nat_tests, raised-raised)
 
-pub returns-then-eq-clause-cost : goal.returns-then-eq-clause-cost
-returns-then-eq-clause-cost c =
+pub returns-then-is_same-clause-cost : goal.returns-then-is_same-clause-cost
+returns-then-is_same-clause-cost c =
     both c.args.start.node c.args.start.last c.args.path.now c.args.meter.now
     (c.if-path-path_len.false ∙ c.path_len.ensures.count) c.climb-front.ensures.cost
     c.climb-whole.ensures.cost
 
-pub returns-else-eq-clause-cost : goal.returns-else-eq-clause-cost
-returns-else-eq-clause-cost c =
+pub returns-else-is_same-clause-cost : goal.returns-else-is_same-clause-cost
+returns-else-is_same-clause-cost c =
     both c.args.start.node c.args.start.last c.args.path.now c.args.meter.now
     (c.if-path-path_len.false ∙ c.path_len.ensures.count) c.climb-front.ensures.cost
     c.climb-whole.ensures.cost

@@ -19,5 +19,5 @@ returns-in_err-rest-clause-refused c = λ _ e rest h same.
     let name = hex_then-injective 32 refl read.1 h.name_bytes (sym read.0 ∙ same) in
     let counted = c.in_ok-iterations.ensures.ok in
     let count = count_then-injective 32 (λ d. omega arith) c.in_ok-iterations.iterations
-    e.1.iterations _ _ counted.1 h.iterations (sym counted.0 ∙ name.1) in
+    e.1.iterations counted.1 h.iterations (sym counted.0 ∙ name.1) in
     c.in_err-rest.ensures.refused refl e.1.credential rest h.credential_bytes h.credential count.1

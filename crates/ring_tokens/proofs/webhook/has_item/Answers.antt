@@ -1,5 +1,6 @@
 -- SPDX-License-Identifier: ISC
-use Rattle.std.proofs.Common.{refl, sym, ◌∙◌}
+use Rattle.std.proofs.Common.{ap, refl, sym, ◌∙◌}
+use Rattle.ring.specs.Prelude.{raised}
 use Rattle.ring_tokens.specs.Webhook.{stripe_item}
 use Rattle.ring_tokens.proofs.Items.{found_last, found_more}
 use Rattle.ring_tokens.proofs.Rises.{pairs_last, pairs_more}
@@ -9,7 +10,8 @@ pub items-preserved : goal.items-preserved
 items-preserved c = (
   found_more c.items.found c.is_named-found.result _ (stripe_item c.args.tag.now)
       c.in-Some.ensures.ok c.is_named-found.ensures.ok c.items.invariant.0,
-  pairs_more _ c.in-Some.ensures.ok c.items.invariant.1 c.is_named-found.ensures.cost,
+  pairs_more _ c.in-Some.ensures.ok c.items.invariant.1
+      (c.is_named-found.ensures.cost ∙ ap (raised c.items.meter 0) c.requires),
 )
 
 pub returns-clause-ok : goal.returns-clause-ok
@@ -19,4 +21,5 @@ returns-clause-ok c =
 
 pub returns-clause-cost : goal.returns-clause-cost
 returns-clause-cost c =
-    pairs_last _ _ (c.in_default.ensures.refused refl) c.items.invariant.1 c.is_named.ensures.cost
+    pairs_last _ _ (c.in_default.ensures.refused refl) c.items.invariant.1
+    (c.is_named.ensures.cost ∙ ap (raised c.items.meter 0) c.requires)

@@ -14,8 +14,8 @@ returns-clause-ok g c =
           let kept = rw w.writer-is at c.flush.ensures.bytes in
           let ended = w.in_ok-end_line.ensures in
           rw w.self-is
-          (open-answered c.args.self.line.items _ _ _ _ c.requires some ended.written kept
-          ended.status))
+          (open-answered c.args.self.line.items _ _ _ _ (c.requires, some)
+          (ended.written, kept) ended.status))
       | else-not-is_empty w ↦
           (let none : length c.args.self.line.items ≡ 0 = search rules in
           rw w.self-is (none-answered _ _ _ _ none (rw w.writer-is at c.flush.ensures.bytes)))

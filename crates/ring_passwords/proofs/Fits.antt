@@ -105,11 +105,11 @@ text_few k p random c len is =
     omega (arith, parameters, length-append {A = ℕ}, prefix, salt, field, last, kept_len, most)
 
 -- so a new value is refused for the length of its password alone
-pub too_long : (k : Scheme) (p random : List ℕ) (c : NonZeroU32) (error : HashError)
+pub too_long : (k : Scheme) (p random : List ℕ) (c : NonZeroU32) {error : HashError}
     → length random ≡ 16 → IsCount c → is_salt k (salt_of k random) ≡ true
     → new_status 1024 k p (salt_of k random) c ≡ Err error
     → can_keep k (length p) (length (salt_of k random)) (kept_len_of k) ≡ false
-too_long k p random c error len is salt told =
+too_long k p random c len is salt told =
     let few = text_few k p random c len is in
     let past : is_past 1024 (text_of (new_parts k p (salt_of k random) c)) ≡ false =
     grind (arith, nat_tests, few) in

@@ -1,4 +1,6 @@
 -- SPDX-License-Identifier: ISC
+mod Events
 mod Fits
 mod Marks
+mod Replaced
 mod Temporaries

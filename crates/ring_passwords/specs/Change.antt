@@ -1,6 +1,7 @@
 -- SPDX-License-Identifier: ISC
 -- What is done with a store.
-use Rattle.std.specs.Prelude.{Option, Some, None, Result, Ok, Err}
+use Rattle.std.specs.Prelude.{◌≡◌, Option, Some, None, Result, Ok, Err}
+use Rattle.std.specs.Int.NonZero.{non_zero_u32_get}
 use Rattle.std.specs.declared.num.NonZeroU32.{NonZeroU32}
 use Rattle.ring_store.specs.Store.{with_iterations}
 use Rattle.ring_store.specs.declared.error.StoreError.{StoreError}
@@ -17,3 +18,8 @@ with_given s (Some iterations) = with_iterations s iterations
 abbrev pub told : Result (Unit {0}) StoreError → Result (Unit {0}) Failure
 told (Ok u) = Ok u
 told (Err error) = Err (failure_of error)
+
+-- the iterations of a new store: those that are given, or else those that OWASP advises
+abbrev pub IsCountOfNew : (given : Option NonZeroU32) → NonZeroU32 → Type 0
+IsCountOfNew None iterations = non_zero_u32_get iterations ≡ 600000
+IsCountOfNew (Some given) iterations = iterations ≡ given

@@ -5,11 +5,14 @@ pub mod Change
 pub mod Check
 pub mod Conversion
 pub mod Encode
+pub mod Event
 pub mod Failure
-pub mod File
+pub mod Folder
 pub mod Listing
 pub mod Misuse
 pub mod Quoted
+pub mod Replace
+pub mod Salt
 pub mod Schemes
 pub mod Temporary
 pub mod Word

@@ -1,18 +1,23 @@
 // SPDX-License-Identifier: ISC
 //! What is done with a store, once it is read.
 
-ghost use Rattle.std.specs.Prelude.{◌≡◌, ◌≢◌, ◌⊎◌, ◌↔◌, ◌<◌, Ok, codes, false, true, take};
-ghost use Rattle.std.specs.Prelude.{IfErr, IfOk, IfSome, IsErrOf, IsFalse, IsNone, IsTrue, OnErr};
+ghost use Rattle.std.specs.Prelude.{◌≡◌, ◌≢◌, ◌⊎◌, ◌↔◌, ◌<◌, ℕ, List, Ok, codes, false, take, true};
+ghost use Rattle.std.specs.Prelude.{IfErr, IfOk, IsErrOf, IsFalse, IsTrue, OnErr};
 ghost use Rattle.std.specs.Prelude.{OnOk};
 ghost use Rattle.std.specs.Int.NonZero.{non_zero_u32_get};
+ghost use Rattle.std.specs.declared.num.NonZeroU32.{NonZeroU32};
 ghost use Rattle.ring.specs.Cost.{raised};
-ghost use Rattle.ring_store.specs.Store.{admission, is_name, knows, record_blocks, verdict};
-ghost use Rattle.ring_store.specs.Store.{verify_blocks, with_password, without};
+ghost use Rattle.ring_store.specs.Store.{admission, is_name, knows, new_store, record_blocks};
+ghost use Rattle.ring_store.specs.Store.{verdict, verify_blocks, with_password, without};
 ghost use Rattle.ring_store.specs.declared.store.PasswordStore.{PasswordStore};
 ghost use Rattle.ring_store_text.specs.Text.{IsStore, IsText, text_of};
-ghost use Rattle.ring_passwords.specs.Change.{told, with_given};
+ghost use Rattle.ring_passwords.specs.Change.{IsCountOfNew, told, with_given};
+ghost use Rattle.ring_passwords.specs.Failure.{status_of};
+ghost use Rattle.ring_passwords.specs.Salt.{IsDrawn, IsNotDrawn};
 
 use crate::failure::Failure;
+use crate::salt::salt;
+use crate::steps::Steps;
 use ring::cost::Meter;
 use ring_store::{CREDENTIAL_LEN, MAX_NAME_LEN, PasswordStore};
 use ring_store_text::{LoadError, from_text};
@@ -31,10 +36,26 @@ pub const FEWEST_ITERATIONS: u32 = 100_000;
 
 /// The iterations of a new store.
 pub fn iterations_of_new(given: Option<NonZeroU32>) -> NonZeroU32
-    ensures given { IfSome given (λ iterations. result ≡ iterations) }
-    ensures advised { IsNone given → non_zero_u32_get result ≡ 600_000 }
+    ensures { IsCountOfNew given result }
 {
     given.unwrap_or(NonZeroU32::new(ADVISED_ITERATIONS).unwrap())
+}
+
+/// A store with no record, under a random salt.
+pub fn new_store<S: Steps>(
+    alloc: Global,
+    steps: &mut S,
+    given: Option<NonZeroU32>,
+) -> Result<PasswordStore, Failure>
+    ensures ok { IfOk result (λ store. (salt : List ℕ) × (iterations : NonZeroU32)
+        × IsDrawn (S.events steps.old) (S.events steps.new) salt
+        × IsCountOfNew given iterations × (store ≡ new_store salt iterations)) }
+    ensures refused { IfErr result (λ failure.
+        IsNotDrawn (S.events steps.old) (S.events steps.new) failure) }
+    ensures status { IfErr result (λ failure. status_of failure ≡ 2) }
+{
+    let salt = salt(steps)?;
+    Ok(PasswordStore::new(alloc, salt, iterations_of_new(given)))
 }
 
 /// Whether iterations are so few that a guess at a password costs too little.

@@ -1,18 +1,21 @@
 // SPDX-License-Identifier: ISC
 //! The text of a new password in the form of another system: made and written.
 
-ghost use Rattle.std.specs.Prelude.{◌≡◌, ◌↔◌, ◌⊎◌, ◌++◌, ◌∷◌, [], false, length};
+ghost use Rattle.std.specs.Prelude.{◌≡◌, ◌↔◌, ◌⊎◌, ◌++◌, ℕ, List, [], ◌∷◌, false, length};
 ghost use Rattle.std.specs.Prelude.{IfErr, IfOk, IfSome, IsErrOf, IsNone, IsTrue, OnOk};
 ghost use Rattle.std.specs.Int.NonZero.{non_zero_u32_get};
 ghost use Rattle.std.specs.Io.KnownBytes.{Appends};
 ghost use Rattle.ring_password_hash.specs.Scheme.{kept_len_of};
 ghost use Rattle.ring_password_hash.specs.Stored.{IsStored, can_keep, new_parts, parts_of, text_of};
 ghost use Rattle.ring_passwords.specs.Encode.{IsPrepared, advised, salt_of};
-ghost use Rattle.ring_passwords.specs.Failure.{IsOfSystem};
+ghost use Rattle.ring_passwords.specs.Failure.{IsOfSystem, status_of};
+ghost use Rattle.ring_passwords.specs.Salt.{IsDrawn};
 ghost use Rattle.ring_passwords.specs.declared.failure.Step.TheVariants.{WriteText};
 
 use crate::failure::{Failure, Step};
 use crate::password::LINE_FEED;
+use crate::salt::salt;
+use crate::steps::Steps;
 use ring_password_hash::salt::{RANDOM_LEN, Salt};
 use ring_password_hash::{MAX_TEXT_LEN, Scheme, Stored, needs_preparation};
 use std::io::Write;
@@ -121,4 +124,22 @@ pub fn encode<W: Write>(
 {
     let stored = new_value(scheme, password, iterations, random)?;
     write_text(&stored, writer)
+}
+
+/// Writes the text as [`encode`] does, under a random salt.
+pub fn encode_salted<S: Steps, W: Write>(
+    steps: &mut S,
+    scheme: Scheme,
+    password: &[u8],
+    iterations: NonZeroU32,
+    writer: &mut W,
+) -> Result<(), Failure>
+    ensures ok { OnOk result ((salt : List ℕ)
+        × IsDrawn (S.events steps.old) (S.events steps.new) salt
+        × Appends (W.contents writer.old) (W.contents writer.new)
+        (text_of (new_parts scheme password.now (salt_of scheme salt) iterations) ++ 10 ∷ [])) }
+    ensures status { IfErr result (λ failure. status_of failure ≡ 2) }
+{
+    let random = salt(steps)?;
+    encode(scheme, password, iterations, random, writer)
 }

@@ -1,31 +1,31 @@
 // SPDX-License-Identifier: ISC
 //! The file of a store: read whole, and replaced whole under a lock.
 
-ghost use Rattle.std.specs.Prelude.{◌≡◌, IfErr, IfOk};
-ghost use Rattle.ring_store_text.specs.Text.{IsStore};
+ghost use Rattle.std.specs.Prelude.{◌≡◌, IfErr, IfOk, OnOk, true};
+ghost use Rattle.ring_store_text.specs.Text.{IsStore, text_of};
+ghost use Rattle.ring_passwords.specs.Event.{Did};
 ghost use Rattle.ring_passwords.specs.Failure.{status_of};
-ghost use Rattle.ring_passwords.specs.File.{folder_in};
+ghost use Rattle.ring_passwords.specs.Replace.{IsNotReplaced, IsReplaced};
 
 use crate::change::{MARK, begins_store, store_in};
 use crate::failure::{Failure, Step};
+use crate::folder::folder_of;
 use crate::lock::locked;
-use crate::temporary::{is_temporary, remove_left_over, temporary_path};
-use crate::{regular, temporary};
+use crate::regular;
+use crate::replace::replace;
+use crate::steps::Steps;
+use crate::temporary::is_temporary;
 use ring_store::PasswordStore;
 use ring_store_text::to_text;
-use std::fs::{File, Metadata, Permissions};
-use std::io::{ErrorKind, Read, Write};
-use std::os::unix::fs::{MetadataExt, PermissionsExt, fchown};
-use std::path::Path;
-use std::random::RandomSource;
+use std::alloc::Global;
+use std::fs::{File, Metadata};
+use std::io::{ErrorKind, Read};
+use std::os::unix::fs::MetadataExt;
 use std::rt::{Clock, Files};
 use std::{fs, io};
 
 /// How often a file is looked at that other processes replace meanwhile.
 const LOOKS: usize = 1_000;
-
-/// The bits of a mode that say who reads, writes and runs a file.
-const PERMISSION_BITS: u32 = 0o777;
 
 /// The store that stands in a file.
 pub fn load<R: Files<File = File> + AllocGlobal>(
@@ -155,78 +155,19 @@ impl<'a> LockedFile<'a> {
     }
 
     /// Puts a new file with the store's text in the place of the file.
-    pub fn replace<R>(&self, rt: &R, store: &PasswordStore) -> Result<(), Failure>
-    where
-        R: Files<File = File> + AllocGlobal + Clone + Drop + RandomSource,
+    pub fn replace<S: Steps>(
+        &self,
+        alloc: Global,
+        steps: &mut S,
+        store: &PasswordStore,
+    ) -> Result<(), Failure>
+        ensures ok { OnOk result (Did (S.events steps.old) (S.events steps.new)
+            (IsReplaced self.now.path.now (text_of store.now) true)) }
+        ensures refused { IfErr result (λ failure. Did (S.events steps.old) (S.events steps.new)
+            (IsNotReplaced self.now.path.now (text_of store.now) failure)) }
         ensures status { IfErr result (λ failure. status_of failure ≡ 2) }
     {
-        let text = to_text(rt.alloc(), store)?;
-        let folder_path = folder_of(self.path);
-        let folder = File::open(rt, folder_path).map_err(not_replaced)?;
-        remove_left_over(rt, folder_path, self.path);
-        let mut random = [0; temporary::RANDOM_LEN];
-        rt.fill_bytes(&mut random).map_err(not_replaced)?;
-        let new_path = temporary_path(rt.alloc(), self.path, &random)?;
-        let new = regular::create(rt, new_path.as_str()).map_err(not_replaced)?;
-        if let Err(error) = put(rt, &new, new_path.as_str(), self.path, &text) {
-            // The old file still stands, and nobody needs the new one.
-            let _ = fs::remove_file(rt, new_path.as_str());
-            return Err(not_replaced(error));
-        }
-        folder
-            .sync_all()
-            .map_err(|error| Failure::System(Step::SyncFolder, error))
+        let text = to_text(alloc, store)?;
+        replace(alloc, steps, self.path, &text)
     }
-}
-
-/// The system refuses to put a new file in the place of the old one.
-fn not_replaced(error: io::Error) -> Failure
-    ensures { status_of result ≡ 2 }
-{
-    Failure::System(Step::Replace, error)
-}
-
-/// The folder that a path is in.
-fn folder_of(path: &str) -> &str
-    ensures { result.now ≡ folder_in path.now }
-{
-    match Path::new(path).parent() {
-        Some(folder) if !folder.as_str().is_empty() => folder.as_str(),
-        _ => ".",
-    }
-}
-
-/// Writes a new file to disk, and gives it the name of the old one.
-fn put<R: Files>(
-    rt: &R,
-    mut new: &File,
-    new_path: &str,
-    path: &str,
-    text: &[u8],
-) -> io::Result<()> {
-    // Until its end, or this process's, nobody takes it for one that an interrupted run left.
-    new.try_lock()?;
-    regular::make_private(new)?;
-    new.write_all(text)?;
-    keep_access(rt, path, new)?;
-    new.sync_all()?;
-    fs::rename(rt, new_path, path)
-}
-
-/// Gives a new file the owner, the group and the mode of the file that it replaces, if there is
-/// one.
-///
-/// The system may refuse the owner or the group. Without the group the mode stays that of a new
-/// file, so that no other group gets what the old one had.
-fn keep_access<R: Files>(rt: &R, path: &str, file: &File) -> io::Result<()> {
-    let old = match fs::symlink_metadata(rt, path) {
-        Ok(old) if old.is_file() => old,
-        Err(error) if error.kind() != ErrorKind::NotFound => return Err(error),
-        _ => return Ok(()),
-    };
-    let group = Some(old.gid());
-    if fchown(file, Some(old.uid()), group).is_err() && fchown(file, None, group).is_err() {
-        return Ok(());
-    }
-    file.set_permissions(Permissions::from_mode(old.mode() & PERMISSION_BITS))
 }

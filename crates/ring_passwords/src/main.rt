@@ -13,18 +13,17 @@ ghost use Rattle.ring_passwords.specs.Failure.{status_of};
 use crate::about::{About, write_about};
 use crate::action::Action;
 use crate::asked::{Asked, asked_of};
-use crate::change::{ADVISED_ITERATIONS, FEWEST_ITERATIONS};
+use crate::change::{ADVISED_ITERATIONS, FEWEST_ITERATIONS, new_store};
 use crate::check::check;
 use crate::conversion::{Conversion, max_iterations};
-use crate::encode::{encode, iterations_of_text};
+use crate::encode::{encode_salted, iterations_of_text};
 use crate::failure::{Ended, FAILED, Failure, Step};
 use crate::file::LockedFile;
 use crate::listing::write_listing;
 use crate::password::{MAX_PASSWORD_LEN, read_password};
+use crate::system::System;
 use ring::cost::Meter;
-use ring_password_hash::salt::RANDOM_LEN;
 use ring_password_hash::{MAX_TEXT_LEN, Scheme};
-use ring_store::{DB_SALT_LEN, PasswordStore};
 use std::alloc::AllocError;
 use std::fs::File;
 use std::io::Read;
@@ -40,16 +39,27 @@ mod asked;
 mod change;
 mod check;
 mod conversion;
+#[cfg(test)]
+mod disk;
 mod encode;
+#[cfg(test)]
+mod failing_steps;
 mod failure;
 mod file;
+mod folder;
 mod given;
 mod listing;
 mod lock;
+#[cfg(test)]
+mod memory;
 mod misuse;
 mod password;
 mod quoted;
 mod regular;
+mod replace;
+mod salt;
+mod steps;
+mod system;
 mod temporary;
 mod word;
 
@@ -63,20 +73,6 @@ fn arguments<R: Env + AllocGlobal>(rt: &R) -> Result<Vec<String>, Failure>
     let words = env::args(rt).map_err(|error| Failure::System(Step::Arguments, error))?;
     let words = words.skip(1).collect(rt.alloc())?;
     Ok(words)
-}
-
-/// A store with no record, under a random salt.
-fn new_store<R: RandomSource + AllocGlobal>(
-    rt: &R,
-    iterations: Option<NonZeroU32>,
-) -> Result<PasswordStore, Failure>
-    ensures status { IfErr result (λ failure. status_of failure ≡ 2) }
-{
-    let mut salt = [0; DB_SALT_LEN];
-    rt.fill_bytes(&mut salt)
-        .map_err(|error| Failure::System(Step::Salt, error))?;
-    let iterations = change::iterations_of_new(iterations);
-    Ok(PasswordStore::new(rt.alloc(), salt, iterations))
 }
 
 /// Refuses a name and a file for which no password can be right, before one is read.
@@ -112,11 +108,13 @@ where
     let password = password_of(rt)?;
     let file = LockedFile::new(rt, path)?;
     let mut store = match file.load(rt) {
-        Err(failure) if change::is_made(was_missing, &failure) => new_store(rt, iterations)?,
+        Err(failure) if change::is_made(was_missing, &failure) => {
+            new_store(rt.alloc(), &mut System { rt }, iterations)?
+        }
         loaded => loaded?,
     };
     change::set(&mut store, name, &password, iterations, &mut Meter::new())?;
-    file.replace(rt, &store)?;
+    file.replace(rt.alloc(), &mut System { rt }, &store)?;
     Ok(store.iterations())
 }
 
@@ -164,7 +162,7 @@ where
     let file = LockedFile::new(rt, path)?;
     let mut store = file.load(rt)?;
     change::remove(&mut store, name)?;
-    file.replace(rt, &store)
+    file.replace(rt.alloc(), &mut System { rt }, &store)
 }
 
 /// Writes the names of a file, a line each.
@@ -176,25 +174,28 @@ fn list<R: Files<File = File> + AllocGlobal + Print>(rt: &R, path: &str) -> Resu
 }
 
 /// Writes the text of a password, under a random salt.
-fn write_encoded<R: AllocGlobal + Input + Print + RandomSource>(
-    rt: &R,
-    scheme: Scheme,
-    iterations: NonZeroU32,
-) -> Result<(), Failure>
+fn write_encoded<R>(rt: &R, scheme: Scheme, iterations: NonZeroU32) -> Result<(), Failure>
+where
+    R: Files<File = File> + AllocGlobal + Clone + Drop + RandomSource,
+    R: Input + Print,
     ensures status { IfErr result (λ failure. status_of failure ≡ 2) }
 {
     let password = password_of(rt)?;
-    let mut random = [0; RANDOM_LEN];
-    rt.fill_bytes(&mut random)
-        .map_err(|error| Failure::System(Step::Salt, error))?;
-    encode(scheme, &password, iterations, random, &mut io::writer(rt))
+    let mut system = System { rt };
+    encode_salted(
+        &mut system,
+        scheme,
+        &password,
+        iterations,
+        &mut io::writer(rt),
+    )
 }
 
 /// Does what is asked of the text of a password.
-fn convert<R: AllocGlobal + Input + Print + RandomSource>(
-    rt: &R,
-    asked: Conversion,
-) -> Result<(), Failure>
+fn convert<R>(rt: &R, asked: Conversion) -> Result<(), Failure>
+where
+    R: Files<File = File> + AllocGlobal + Clone + Drop + RandomSource,
+    R: Input + Print,
     ensures status { IfErr result (λ failure. (status_of failure ≡ 2)
         ⊎ (failure ≡ Failure.WrongPassword)) }
 {

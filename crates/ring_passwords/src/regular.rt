@@ -1,14 +1,13 @@
 // SPDX-License-Identifier: ISC
 //! Regular files, opened without a symbolic link or a pipe in their place.
 
-use crate::failure::Failure;
 use std::fs::{File, Metadata, OpenOptions, Permissions};
 use std::os::unix::fs::{MetadataExt, OpenOptionsExt, PermissionsExt};
 use std::rt::Files;
 use std::{fs, io};
 
 /// The mode of a new file: its owner alone reads and writes it.
-const OWNER_ONLY: u32 = 0o600;
+pub const OWNER_ONLY: u32 = 0o600;
 
 /// Whether two looks found the same regular file.
 pub fn is_same(one: &Metadata, other: &Metadata) -> bool {

@@ -2,14 +2,14 @@
 //! The temporary file that takes a store's place: its name, and what interrupted runs left.
 
 ghost use Rattle.std.specs.Prelude.{◌≡◌, ◌↔◌, IfOk, IsTrue, string_bytes};
+ghost use Rattle.ring_passwords.specs.Event.{Did};
+ghost use Rattle.ring_passwords.specs.Replace.{AreRemovals, IsLeftOver, IsLookedAt};
 ghost use Rattle.ring_passwords.specs.Temporary.{IsTemporary, temporary_of};
 
-use crate::regular;
+use crate::steps::Steps;
 use ring_text::fill_from_hex;
 use std::alloc::{AllocError, Global};
-use std::fs::{File, read_dir};
-use std::rt::Files;
-use std::{fs, io};
+use std::path::Path;
 
 /// What the name has behind that of the store's file, before the digits.
 const MARK: &str = ".new-";
@@ -45,41 +45,41 @@ pub fn temporary_path(alloc: Global, path: &str, random: &[u8]) -> Result<String
 /// Removes what interrupted runs left of temporary files of a store's file, whose lock is held.
 ///
 /// A file that cannot be looked at or removed stays: it is in nobody's way.
-pub fn remove_left_over<R>(rt: &R, folder: &str, path: &str)
-where
-    R: Files<File = File> + AllocGlobal + Clone + Drop,
+pub fn remove_left_over<S: Steps>(steps: &mut S, folder: &str, path: &str)
+    ensures { Did (S.events steps.old) (S.events steps.new) (AreRemovals path.now) }
 {
-    let file = name_of(path);
-    let Ok(entries) = read_dir(rt, folder) else {
+    let Ok(mut names) = steps.names(folder) else {
         return;
     };
-    for entry in entries {
-        let Ok(entry) = entry else { continue };
-        let name = entry.file_name();
-        if name.len() == file.len() + END_LEN && name.starts_with(file) && is_temporary(name) {
-            let _ = remove_if_left(rt, entry.path().as_str());
+    for _ in 0..u64::MAX {
+        match steps.next_name(&mut names) {
+            Some(Ok(entry)) => remove_if_left_over(steps, path, &entry),
+            Some(Err(_)) => {}
+            None => return,
         }
     }
 }
 
-/// The last name of a path.
-fn name_of(path: &str) -> &str {
-    match path.rsplit_once('/') {
-        Some((_, name)) => name,
-        None => path,
+/// Removes a file of a name that a temporary file of a store's file has.
+fn remove_if_left_over<S: Steps>(steps: &mut S, path: &str, entry: &S::Entry)
+    ensures { Did (S.events steps.old) (S.events steps.new)
+        (IsLookedAt path.now (S.name entry.now)) }
+{
+    if is_left_over(path, steps.name_of(entry)) {
+        let _ = steps.remove_unlocked(entry);
     }
 }
 
-/// Removes a temporary file that no process holds: the one that makes it locks it until its end.
-fn remove_if_left<R: Files<File = File>>(rt: &R, path: &str) -> io::Result<()> {
-    let found = fs::symlink_metadata(rt, path)?;
-    if !found.is_file() {
-        return Ok(());
+/// Whether a name is that of a temporary file of a store's file.
+fn is_left_over(path: &str, name: &str) -> bool
+    ensures { IsTrue result ↔ IsLeftOver path.now name.now }
+{
+    let Some(file) = Path::new(path).file_name() else {
+        return false;
+    };
+    if name.len() != file.len() + END_LEN {
+        return false;
     }
-    let file = regular::open_to_lock(rt, path)?;
-    file.try_lock()?;
-    if regular::is_same(&found, &file.metadata()?) {
-        fs::remove_file(rt, path)?;
-    }
-    Ok(())
+    let (start, _) = name.as_bytes().split_at(file.len());
+    start == file.as_bytes() && is_temporary(name)
 }

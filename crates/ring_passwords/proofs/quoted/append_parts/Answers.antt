@@ -16,25 +16,31 @@ next_part behind cs n c h = at_drop_more (parts behind) cs n c h.0
     ∙ ap (λ x. part behind x ++ parts (is_control x) (drop (n + 1) cs)) (sym h.1)
 
 -- a character more is written
-step : (whole out new cs : List ℕ) (behind control : Bool) (n m c : ℕ)
-    → (n < length cs) × (c ≡ get_or cs n c) → new ≡ out ++ part behind c
-    → control ≡ is_control c → m ≡ n + 1 → out ++ parts behind (drop n cs) ≡ whole
-    → new ++ parts control (drop m cs) ≡ whole
-step whole out new cs behind control n m c turn made is count before =
-    ap (λ xs. xs ++ parts control (drop m cs)) made
-    ∙ append_assoc out (part behind c) (parts control (drop m cs))
-    ∙ ap (λ b. out ++ (part behind c ++ parts b (drop m cs))) is
-    ∙ ap (λ k. out ++ (part behind c ++ parts (is_control c) (drop k cs))) count
+step : (whole out cs : List ℕ) (behind : Bool) (n c : ℕ) → (n < length cs) × (c ≡ get_or cs n c)
+    → out ++ parts behind (drop n cs) ≡ whole
+    → (out ++ part behind c) ++ parts (is_control c) (drop (n + 1) cs) ≡ whole
+step whole out cs behind n c turn before =
+    append_assoc out (part behind c) (parts (is_control c) (drop (n + 1) cs))
     ∙ ap (λ xs. out ++ xs) (sym (next_part behind cs n c turn)) ∙ before
+
+-- the same of values that are equal
+moved : (cs : List ℕ) {whole out new : List ℕ} {behind control : Bool} {n m : ℕ}
+    → out ++ parts behind (drop n cs) ≡ whole → new ≡ out → control ≡ behind → m ≡ n
+    → new ++ parts control (drop m cs) ≡ whole
+moved cs {out = out} {behind = behind} {control = control} {m = m} before made is count =
+    ap (λ xs. xs ++ parts control (drop m cs)) made ∙ ap (λ b. out ++ parts b (drop m cs)) is
+    ∙ ap (λ k. out ++ parts behind (drop k cs)) count ∙ before
 
 pub loop-character-preserved : goal.loop-character-preserved
 loop-character-preserved c =
     let turn = YieldsList-turn (YieldsList-from_chars c.args.word.now c.utf8.word cc)
     c.loop-character.yielded _ c.loop-character.yielded_by _ _ c.in-Some.character c.in-Some.is
     c.next.ensures.steps in
-    step _ _ _ (chars c.args.word.now) c.loop-character.behind_control _
-    (length c.loop-character.yielded) _ c.in-Some.character turn (search rules) (search rules)
-    (length_push c.loop-character.yielded c.in-Some.character) c.loop-character.invariant
+    let l = c.loop-character in
+    let cs = chars c.args.word.now in
+    let more = step _ l.out.items cs l.behind_control (length l.yielded) c.in-Some.character turn
+    l.invariant in
+    moved cs more (search rules) (search rules) (length_push l.yielded c.in-Some.character)
 
 pub returns : goal.returns
 returns c =

@@ -1,5 +1,5 @@
 -- SPDX-License-Identifier: ISC
--- The file of a store.
+-- The folder of a file.
 use Rattle.std.specs.Prelude.{ℕ, List, [], ◌∷◌, Option, Some, None, codes}
 use Rattle.std.specs.Path.{path_parent}
 

@@ -1,0 +1,244 @@
+-- SPDX-License-Identifier: ISC
+-- The steps by which a file is replaced.
+use Rattle.std.proofs.Common.{◌≡◌, ◌++◌, ℕ, Bool, true, false, List, [], ◌∷◌, Option, Some, None}
+use Rattle.std.proofs.Common.{Result, Ok, Err, inl, inr, length, refl, subst, sym}
+use Rattle.std.proofs.lemmas.List.Elements.{All-append, All-cons, All-nil, All-weaker}
+use Rattle.std.specs.Prelude.{All, bit_and}
+use Rattle.std.specs.declared.io.Error.{Error}
+use Rattle.ring_passwords.specs.Event.{Event, OpenFolder, RemoveUnlocked, Random, Create, Lock}
+use Rattle.ring_passwords.specs.Event.{SetMode, SetOwner, Write, Look, Sync, Rename, Remove, Did}
+use Rattle.ring_passwords.specs.Event.{Notes}
+use Rattle.ring_passwords.specs.Folder.{folder_in}
+use Rattle.ring_passwords.specs.Replace.{AreRemovals, IsAccess, IsAccessGiven, IsBefore, IsMade}
+use Rattle.ring_passwords.specs.Replace.{IsNotMade, IsNotReplaced, IsOwnerGiven, IsPut, IsRemoval}
+use Rattle.ring_passwords.specs.Replace.{IsReplaced, IsStopped, IsWithNew, IsRefused, granted}
+use Rattle.ring_passwords.specs.Temporary.{temporary_of}
+use Rattle.ring_passwords.specs.declared.failure.Failure.{Failure}
+use Rattle.ring_passwords.specs.declared.failure.Failure.TheVariants as failure
+use Rattle.ring_passwords.specs.declared.failure.Step.TheVariants as step
+use Rattle.ring_passwords.specs.declared.steps.Access.{Access}
+use Rattle.ring_passwords.specs.Failure.{IsOfSystem}
+use Rattle.ring_passwords.proofs.Events.{Did-map, Did-more, Did-one, Did-stops, Does-then}
+
+pub granted_is : {T : Type 0} (r : Result T Error) (value : T) → Ok value ≡ granted r
+    → r ≡ Ok value
+granted_is (Ok v) value same = cc
+granted_is (Err e) value same = absurd cc
+
+module _ {F : Type 0} where
+  two : (P : Event F → Type 0) {d e : Event F} → P d → P e → All P (d ∷ e ∷ [])
+  two P {d = d} {e = e} first second =
+      All-cons P d (e ∷ []) first (All-cons P e [] second (All-nil P))
+
+  owner_with_new : (new : F) (old : Access) (given : Bool) (events : List (Event F))
+      → IsOwnerGiven new old given events → All (IsWithNew new) events
+  owner_with_new new old true events (inl is) =
+      subst (All (IsWithNew new)) (sym is) (All-cons (IsWithNew new) _ [] refl (All-nil _))
+  owner_with_new new old true events (inr is) =
+      subst (All (IsWithNew new)) (sym is) (two (IsWithNew new) refl refl)
+  owner_with_new new old false events is =
+      subst (All (IsWithNew new)) (sym is) (two (IsWithNew new) refl refl)
+
+  given_with_new : (new : F) (old : Access) (events : List (Event F))
+      → IsAccessGiven new old events → All (IsWithNew new) events
+  given_with_new new old events (inl refused) = owner_with_new new old false events refused
+  given_with_new new old events (inr (owner, given, are)) =
+      subst (All (IsWithNew new)) (sym are) (All-append (IsWithNew new) owner _
+      (owner_with_new new old true owner given)
+      (All-cons (IsWithNew new) _ [] refl (All-nil _)))
+
+  access_with_new : (path : List ℕ) (new : F) (events : List (Event F))
+      → IsAccess path new events → All (IsWithNew new) events
+  access_with_new path new events (inl none) =
+      subst (All (IsWithNew new)) (sym none) (All-cons (IsWithNew new) _ [] tt (All-nil _))
+  access_with_new path new events (inr (old, given, is, are)) =
+      subst (All (IsWithNew new)) (sym are)
+      (All-cons (IsWithNew new) _ given tt (given_with_new new old given is))
+
+  pub owner_is_with_new : (new : F) (old : Access) (given : Bool) {a b : Option (List (Event F))}
+      → Did a b (IsOwnerGiven new old given) → Did a b (All (IsWithNew new))
+  owner_is_with_new new old given =
+      Did-map (IsOwnerGiven new old given) (All (IsWithNew new)) (owner_with_new new old given)
+
+  pub access_is_with_new : (path : List ℕ) (new : F) {a b : Option (List (Event F))}
+      → Did a b (IsAccess path new) → Did a b (All (IsWithNew new))
+  access_is_with_new path new =
+      Did-map (IsAccess path new) (All (IsWithNew new)) (access_with_new path new)
+
+  -- the owner is refused, and the group is given or not
+  pub owner_given : (new : F) (old : Access) (given : Bool) {a b c : Option (List (Event F))}
+      → Notes a b (SetOwner new (Some old.user) old.group false)
+      → Notes b c (SetOwner new None old.group given) → Did a c (IsOwnerGiven new old given)
+  owner_given new old true first second =
+      record { events = _; are = inr refl; does = Does-then first second }
+  owner_given new old false first second =
+      record { events = _; are = refl; does = Does-then first second }
+
+  pub access_given : (new : F) (old : Access) {a b c : Option (List (Event F))}
+      → Did a b (IsOwnerGiven new old true)
+      → Notes b c (SetMode new (bit_and old.mode 0o777) true) → Did a c (IsAccessGiven new old)
+  access_given new old did notes = record {
+    events = did.events ++ SetMode new (bit_and old.mode 0o777) true ∷ [];
+    are = inr (did.events, did.are, refl);
+    does = Does-then did.does notes;
+  }
+
+  pub access_kept : (path : List ℕ) (new : F) (old : Access) {a b c : Option (List (Event F))}
+      → Notes a b (Look path (Some (Some old))) → Did b c (IsAccessGiven new old)
+      → Did a c (IsAccess path new)
+  access_kept path new old notes did = record {
+    events = Look path (Some (Some old)) ∷ did.events;
+    are = inr (old, did.events, did.are, refl);
+    does = Does-then notes did.does;
+  }
+
+  -- a new file is locked and private
+  pub private_is_with_new : (new : F) {a b c : Option (List (Event F))} → Notes a b (Lock new true)
+      → Notes b c (SetMode new 0o600 true) → Did a c (All (IsWithNew new))
+  private_is_with_new new locked private =
+      Did-more (IsWithNew new) (Did-one (IsWithNew new) {e = Lock new true} locked refl)
+      (Did-one (IsWithNew new) {e = SetMode new 0o600 true} private refl)
+
+  -- and has the text
+  pub written_is_with_new : (new : F) (text : List ℕ) {a b c d : Option (List (Event F))}
+      → Notes a b (Lock new true) → Notes b c (SetMode new 0o600 true)
+      → Notes c d (Write new text true) → Did a d (All (IsWithNew new))
+  written_is_with_new new text locked private written =
+      Did-more (IsWithNew new) (private_is_with_new new locked private)
+      (Did-one (IsWithNew new) {e = Write new text true} written refl)
+
+  pub is_put : (path new_path : List ℕ) (new : F) (text : List ℕ)
+      {a b c d e f g : Option (List (Event F))} → Notes a b (Lock new true)
+      → Notes b c (SetMode new 0o600 true) → Notes c d (Write new text true)
+      → Did d e (IsAccess path new) → Notes e f (Sync new true)
+      → Notes f g (Rename new_path path true) → Did a g (IsPut path new_path new text)
+  is_put path new_path new text locked private written access synced renamed = record {
+    events = _;
+    are = record { access = access.events; kept = access.are; are = refl };
+    does = Does-then (Does-then locked (Does-then private (Does-then written access.does)))
+        (Does-then synced renamed);
+  }
+
+  removals_before : (path : List ℕ) (events : List (Event F)) → AreRemovals path events
+      → All (IsBefore path) events
+  removals_before path =
+      All-weaker (IsRemoval path) (IsBefore path) (removal_before path)
+    where
+      removal_before : (path : List ℕ) (e : Event F) → IsRemoval path e → IsBefore path e
+      removal_before path (RemoveUnlocked name done) left = left
+      removal_before path (OpenFolder folder found) left = tt
+      removal_before path (Random bytes done) left = tt
+      removal_before path (Create new_path made) left = absurd left
+      removal_before path (Lock file done) left = absurd left
+      removal_before path (SetMode file mode done) left = absurd left
+      removal_before path (SetOwner file user group done) left = absurd left
+      removal_before path (Write file bytes done) left = absurd left
+      removal_before path (Look name found) left = absurd left
+      removal_before path (Sync file done) left = absurd left
+      removal_before path (Rename from to done) left = absurd left
+      removal_before path (Remove name done) left = absurd left
+
+  -- the folder is open, and what was left is removed
+  pub opened_before : (path : List ℕ) (folder : F) {a b c : Option (List (Event F))}
+      → Notes a b (OpenFolder (folder_in path) (Some folder)) → Did b c (AreRemovals path)
+      → Did a c (All (IsBefore path))
+  opened_before path folder opened removed =
+      Did-more (IsBefore path) (Did-one (IsBefore path) opened tt)
+      (Did-map (AreRemovals path) (All (IsBefore path)) (removals_before path) removed)
+
+  pub is_made : (path : List ℕ) (folder : F) (new_path : List ℕ) (new : F) (random : List ℕ)
+      {a b c d e : Option (List (Event F))} → length random ≡ 8
+      → new_path ≡ temporary_of path random
+      → Notes a b (OpenFolder (folder_in path) (Some folder)) → Did b c (AreRemovals path)
+      → Notes c d (Random random true) → Notes d e (Create new_path (Some new))
+      → Did a e (IsMade path folder new_path new)
+  is_made path folder new_path new random len named opened removed drawn made = record {
+    events = _;
+    are = record {
+      random = random;
+      removals = removed.events;
+      len = len;
+      named = named;
+      removed = removed.are;
+      are = refl;
+    };
+    does = Does-then (Does-then opened removed.does) (Does-then drawn made);
+  }
+
+  -- the system refuses a step before the file is made
+  pub not_made : (path : List ℕ) (failed : Failure) {a b : Option (List (Event F))}
+      → IsOfSystem step.Replace failed → Did a b (IsStopped (IsBefore path))
+      → Did a b (IsNotMade path failed)
+  not_made path failed is =
+      Did-map (IsStopped (IsBefore path)) (IsNotMade path failed)
+      (λ events stopped. inr (is, stopped))
+
+  -- a step is refused before the file is made
+  pub stops_before : (path : List ℕ) {T : Type 0} (r : Result T Error) (failed : Failure)
+      (event : Result T Error → Event F) {a b c : Option (List (Event F))}
+      → Err failed ≡ granted r → Did a b (All (IsBefore path)) → Notes b c (event r)
+      → ((e : Error) → IsBefore path (event (Err e))) → ((e : Error) → IsRefused (event (Err e)))
+      → Did a c (IsNotMade path failed)
+  stops_before path (Ok v) failed event same before notes kind refused = absurd cc
+  stops_before path (Err e) failed event same before notes kind refused =
+      not_made path failed (e, cc)
+      (Did-stops (IsBefore path) before notes (kind e) (refused e))
+
+  pub no_memory : (path : List ℕ) (failed : Failure) {a b : Option (List (Event F))}
+      → failed ≡ failure.Memory → Did a b (All (IsBefore path)) → Did a b (IsNotMade path failed)
+  no_memory path failed is =
+      Did-map (All (IsBefore path)) (IsNotMade path failed) (λ events before. inl (is, before))
+
+  pub is_replaced : (path text : List ℕ) (folder : F) (new_path : List ℕ) (new : F)
+      (synced : Bool) {a b c d : Option (List (Event F))}
+      → Did a b (IsMade path folder new_path new) → Did b c (IsPut path new_path new text)
+      → Notes c d (Sync folder synced) → Did a d (IsReplaced path text synced)
+  is_replaced path text folder new_path new synced made put notes = record {
+    events = _;
+    are = record {
+      folder = folder;
+      new_path = new_path;
+      new = new;
+      made = made.events;
+      put = put.events;
+      is_made = made.are;
+      is_put = put.are;
+      are = refl;
+    };
+    does = Does-then (Does-then made.does put.does) notes;
+  }
+
+  pub is_undone : (path text : List ℕ) (failed : Failure) (folder : F) (new_path : List ℕ) (new : F)
+      (removed : Bool) {a b c d : Option (List (Event F))} → IsOfSystem step.Replace failed
+      → Did a b (IsMade path folder new_path new) → Did b c (IsStopped (IsWithNew new))
+      → Notes c d (Remove new_path removed) → Did a d (IsNotReplaced path text failed)
+  is_undone path text failed folder new_path new removed is made stopped notes = record {
+    events = _;
+    are = inr (inl (
+      is,
+      record {
+        folder = folder;
+        new_path = new_path;
+        new = new;
+        made = made.events;
+        tried = stopped.events;
+        removed = removed;
+        is_made = made.are;
+        stopped = stopped.are;
+        are = refl;
+      },
+    ));
+    does = Does-then (Does-then made.does stopped.does) notes;
+  }
+
+  pub not_synced : (path text : List ℕ) (failed : Failure) {a b : Option (List (Event F))}
+      → IsOfSystem step.SyncFolder failed → Did a b (IsReplaced path text false)
+      → Did a b (IsNotReplaced path text failed)
+  not_synced path text failed is =
+      Did-map (IsReplaced path text false) (IsNotReplaced path text failed)
+      (λ events replaced. inr (inr (is, replaced)))
+
+  pub not_replaced : (path text : List ℕ) (failed : Failure) {a b : Option (List (Event F))}
+      → Did a b (IsNotMade path failed) → Did a b (IsNotReplaced path text failed)
+  not_replaced path text failed =
+      Did-map (IsNotMade path failed) (IsNotReplaced path text failed) (λ events made. inl made)

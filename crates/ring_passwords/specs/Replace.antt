@@ -1,0 +1,167 @@
+-- SPDX-License-Identifier: ISC
+-- How a file is replaced, step by step.
+use Rattle.std.specs.Prelude.{◌≡◌, ◌⊎◌, ℕ, Bool, true, false, List, [], ◌∷◌, ◌++◌, Some}
+use Rattle.std.specs.Prelude.{None, Result, Ok, Err, All, bit_and, length}
+use Rattle.std.specs.Path.{path_file_name}
+use Rattle.std.specs.declared.io.Error.{Error}
+use Rattle.hex.specs.Hex.{IsBytes}
+use Rattle.ring_passwords.specs.Event.{Event, OpenFolder, RemoveUnlocked, Random, Create, Lock}
+use Rattle.ring_passwords.specs.Event.{SetMode, SetOwner, Write, Look, Sync, Rename, Remove}
+use Rattle.ring_passwords.specs.Failure.{IsOfSystem}
+use Rattle.ring_passwords.specs.Folder.{folder_in}
+use Rattle.ring_passwords.specs.Temporary.{temporary_of}
+use Rattle.ring_passwords.specs.declared.failure.Failure.{Failure}
+use Rattle.ring_passwords.specs.declared.failure.Failure.TheVariants as failure
+use Rattle.ring_passwords.specs.declared.failure.Step.TheVariants as step
+use Rattle.ring_passwords.specs.declared.steps.Access.{Access}
+
+-- the step was refused
+abbrev pub IsRefused : {F : Type 0} → Event F → Type 0
+IsRefused (OpenFolder path None) = Unit {0}
+IsRefused (Random bytes false) = Unit {0}
+IsRefused (Create path None) = Unit {0}
+IsRefused (Lock file false) = Unit {0}
+IsRefused (SetMode file mode false) = Unit {0}
+IsRefused (Write file bytes false) = Unit {0}
+IsRefused (Look path None) = Unit {0}
+IsRefused (Sync file false) = Unit {0}
+IsRefused (Rename old new false) = Unit {0}
+IsRefused _ = ⊥
+
+-- steps of one kind, of which the last was refused
+pub record IsStopped {F : Type 0} (P : Event F → Type 0) (events : List (Event F)) : Type 0 where
+  pub front : List (Event F)
+  pub last : Event F
+  pub done : All P front
+  pub kind : P last
+  pub refused : IsRefused last
+  pub are : events ≡ front ++ last ∷ []
+
+-- the name is that of a temporary file of the path's file
+pub record IsLeftOver (path name : List ℕ) : Type 0 where
+  pub file : List ℕ
+  pub random : List ℕ
+  pub len : length random ≡ 8
+  pub bytes : IsBytes random
+  pub beside : path_file_name path ≡ Some file
+  pub has : name ≡ temporary_of file random
+
+-- a temporary file of the path's file is removed, unless a process has locked it
+abbrev pub IsRemoval : {F : Type 0} → (path : List ℕ) → Event F → Type 0
+IsRemoval path (RemoveUnlocked name done) = IsLeftOver path name
+IsRemoval path _ = ⊥
+
+abbrev pub AreRemovals : {F : Type 0} → (path : List ℕ) → List (Event F) → Type 0
+AreRemovals path events = All (IsRemoval path) events
+
+-- if the name is that of a temporary file of the path's file, that is removed, and else nothing is
+-- done
+abbrev pub IsLookedAt : {F : Type 0} → (path name : List ℕ) → List (Event F) → Type 0
+IsLookedAt path name events =
+    (IsLeftOver path name × (done : Bool) × (events ≡ RemoveUnlocked name done ∷ []))
+    ⊎ ((¬ IsLeftOver path name) × (events ≡ []))
+
+-- a new file is made beside a path's file, with a name of 8 random bytes
+pub record IsMade {F : Type 0} (path : List ℕ) (folder : F) (new_path : List ℕ) (new : F)
+    (events : List (Event F)) : Type 0 where
+  pub random : List ℕ
+  pub removals : List (Event F)
+  pub len : length random ≡ 8
+  pub named : new_path ≡ temporary_of path random
+  pub removed : AreRemovals path removals
+  pub are : events ≡ (OpenFolder (folder_in path) (Some folder) ∷ removals)
+      ++ Random random true ∷ Create new_path (Some new) ∷ []
+
+-- a step before a new file is made, or one that makes none
+abbrev pub IsBefore : {F : Type 0} → (path : List ℕ) → Event F → Type 0
+IsBefore path (OpenFolder folder found) = Unit {0}
+IsBefore path (RemoveUnlocked name done) = IsLeftOver path name
+IsBefore path (Random bytes done) = Unit {0}
+IsBefore path (Create new_path None) = Unit {0}
+IsBefore path _ = ⊥
+
+-- a step's result as the program's, where the system refuses to replace the file
+abbrev pub granted : {T : Type 0} → Result T Error → Result T Failure
+granted (Ok value) = Ok value
+granted (Err error) = Err (failure.System step.Replace error)
+
+-- no new file is made, for want of memory or because a step was refused
+abbrev pub IsNotMade : {F : Type 0} → (path : List ℕ) → Failure → List (Event F) → Type 0
+IsNotMade path failed events =
+    ((failed ≡ failure.Memory) × All (IsBefore path) events)
+    ⊎ (IsOfSystem step.Replace failed × IsStopped (IsBefore path) events)
+
+-- a new file gets the group of an old one, with its owner, or without where the system refuses that
+abbrev pub IsOwnerGiven : {F : Type 0} → (new : F) → (old : Access) → (given : Bool)
+    → List (Event F) → Type 0
+IsOwnerGiven new old true events =
+    (events ≡ SetOwner new (Some old.user) old.group true ∷ [])
+    ⊎ (events ≡ SetOwner new (Some old.user) old.group false ∷ SetOwner new None old.group true
+    ∷ [])
+IsOwnerGiven new old false events =
+    events ≡ SetOwner new (Some old.user) old.group false ∷ SetOwner new None old.group false ∷ []
+
+-- with the group it gets the nine bits of the mode that say who reads, writes and runs the file
+abbrev pub IsAccessGiven : {F : Type 0} → (new : F) → (old : Access) → List (Event F) → Type 0
+IsAccessGiven new old events =
+    IsOwnerGiven new old false events
+    ⊎ ((owner : List (Event _)) × IsOwnerGiven new old true owner
+    × (events ≡ owner ++ SetMode new (bit_and old.mode 0o777) true ∷ []))
+
+-- a new file gets what an old one has, if there is one
+abbrev pub IsAccess : {F : Type 0} → (path : List ℕ) → (new : F) → List (Event F) → Type 0
+IsAccess path new events =
+    (events ≡ Look path (Some None) ∷ [])
+    ⊎ ((old : Access) × (given : List (Event _)) × IsAccessGiven new old given
+    × (events ≡ Look path (Some (Some old)) ∷ given))
+
+-- a new file is locked and private, gets the text and what the old file has, is on the disk, and
+-- takes the name
+pub record IsPut {F : Type 0} (path new_path : List ℕ) (new : F) (text : List ℕ)
+    (events : List (Event F)) : Type 0 where
+  pub access : List (Event F)
+  pub kept : IsAccess path new access
+  pub are : events ≡ (Lock new true ∷ SetMode new 0o600 true ∷ Write new text true ∷ access)
+      ++ Sync new true ∷ Rename new_path path true ∷ []
+
+-- a step with a new file, which takes no name
+abbrev pub IsWithNew : {F : Type 0} → (new : F) → Event F → Type 0
+IsWithNew new (Lock file done) = file ≡ new
+IsWithNew new (SetMode file mode done) = file ≡ new
+IsWithNew new (SetOwner file user group done) = file ≡ new
+IsWithNew new (Write file bytes done) = file ≡ new
+IsWithNew new (Look path found) = Unit {0}
+IsWithNew new (Sync file done) = file ≡ new
+IsWithNew new (Rename from to false) = Unit {0}
+IsWithNew new _ = ⊥
+
+-- a new file is made and takes the name, and then the folder is synced or not
+pub record IsReplaced {F : Type 0} (path text : List ℕ) (synced : Bool) (events : List (Event F))
+    : Type 0 where
+  pub folder : F
+  pub new_path : List ℕ
+  pub new : F
+  pub made : List (Event F)
+  pub put : List (Event F)
+  pub is_made : IsMade path folder new_path new made
+  pub is_put : IsPut path new_path new text put
+  pub are : events ≡ made ++ put ++ Sync folder synced ∷ []
+
+-- a new file is made, does not take the name, and is removed
+pub record IsUndone {F : Type 0} (path : List ℕ) (events : List (Event F)) : Type 0 where
+  pub folder : F
+  pub new_path : List ℕ
+  pub new : F
+  pub made : List (Event F)
+  pub tried : List (Event F)
+  pub removed : Bool
+  pub is_made : IsMade path folder new_path new made
+  pub stopped : IsStopped (IsWithNew new) tried
+  pub are : events ≡ made ++ tried ++ Remove new_path removed ∷ []
+
+-- why, and after which steps, a file is not replaced, or not for certain
+abbrev pub IsNotReplaced : {F : Type 0} → (path text : List ℕ) → Failure → List (Event F) → Type 0
+IsNotReplaced path text failed events =
+    IsNotMade path failed events
+    ⊎ (IsOfSystem step.Replace failed × IsUndone path events)
+    ⊎ (IsOfSystem step.SyncFolder failed × IsReplaced path text false events)

@@ -1,0 +1,205 @@
+// SPDX-License-Identifier: ISC
+//! The steps as a folder in memory takes them, each written down.
+
+ghost use Rattle.std.specs.Prelude.{◌≡◌, ℕ, Some, is_ok, map, string_bytes};
+ghost use Rattle.ring_passwords.specs.Event.{Event, Notes};
+ghost use Rattle.ring_passwords.specs.Event as event;
+ghost use Rattle.ring_passwords.specs.declared.disk.Note.TheVariants as note;
+
+use crate::memory::Folder;
+use crate::steps::{Access, Steps};
+use std::io;
+use std::process::Abort;
+
+/// A step that was taken: what it was given, and what came of it.
+#[derive(Drop)]
+enum Note {
+    OpenFolder(Vec<u8>, Option<u32>),
+    RemoveUnlocked(Vec<u8>, bool),
+    Random(Vec<u8>, bool),
+    Create(Vec<u8>, Option<u32>),
+    Lock(u32, bool),
+    SetMode(u32, u32, bool),
+    SetOwner(u32, Option<u32>, u32, bool),
+    Write(u32, Vec<u8>, bool),
+    Look(Vec<u8>, Option<Option<Access>>),
+    Sync(u32, bool),
+    Rename(Vec<u8>, Vec<u8>, bool),
+    Remove(Vec<u8>, bool),
+}
+
+/// What tells of a step.
+trait Tells {
+    ghost event: { Self → Event ℕ };
+}
+
+impl Tells for Note {
+    ghost event = { elim [
+      | note.OpenFolder path folder ↦ event.OpenFolder path.items folder
+      | note.RemoveUnlocked name done ↦ event.RemoveUnlocked name.items done
+      | note.Random bytes done ↦ event.Random bytes.items done
+      | note.Create path file ↦ event.Create path.items file
+      | note.Lock file done ↦ event.Lock file done
+      | note.SetMode file mode done ↦ event.SetMode file mode done
+      | note.SetOwner file user group done ↦ event.SetOwner file user group done
+      | note.Write file bytes done ↦ event.Write file bytes.items done
+      | note.Look path found ↦ event.Look path.items found
+      | note.Sync file done ↦ event.Sync file done
+      | note.Rename from to done ↦ event.Rename from.items to.items done
+      | note.Remove path done ↦ event.Remove path.items done
+    ] };
+}
+
+/// A folder in memory, and the steps that were taken with it.
+#[derive(Drop)]
+pub struct Disk<'a, R> {
+    rt: &'a R,
+    folder: Folder,
+    notes: Vec<Note>,
+}
+
+/// A step's result.
+fn told(done: bool) -> io::Result<()>
+    ensures { is_ok result ≡ done }
+{
+    if done {
+        Ok(())
+    } else {
+        Err(io::Error::from(io::ErrorKind::Other))
+    }
+}
+
+/// A copy of some bytes.
+fn copy<R: Abort + AllocGlobal>(rt: &R, bytes: &[u8]) -> Vec<u8>
+    ensures { result.items ≡ bytes.now }
+{
+    bytes.to_vec(rt.alloc()).expect(rt, "no memory")
+}
+
+impl<'a, R: Abort + AllocGlobal> Disk<'a, R> {
+    /// A folder with which no step was taken.
+    pub fn new(rt: &'a R, folder: Folder) -> Disk<'a, R> {
+        let notes = Vec::new(rt.alloc());
+        Disk { rt, folder, notes }
+    }
+
+    /// The folder, once the last step is taken.
+    pub fn into_folder(self) -> Folder {
+        self.folder
+    }
+
+    /// Writes down a step.
+    fn note(&mut self, step: Note)
+        ensures { Notes (Some (map ⟦<Note as Tells>⟧.event self.old.notes.items))
+            (Some (map ⟦<Note as Tells>⟧.event self.new.notes.items))
+            (⟦<Note as Tells>⟧.event step) }
+    {
+        self.folder.look();
+        self.notes.push(step).expect(self.rt, "no memory");
+    }
+}
+
+impl<R: Abort + AllocGlobal> Steps for Disk<'_, R> {
+    type File = u32;
+
+    type Names = Vec<String>;
+
+    type Entry = String;
+
+    ghost events = { λ disk. Some (map ⟦<Note as Tells>⟧.event disk.notes.items) };
+
+    ghost name = { string_bytes };
+
+    fn open_folder(&mut self, path: &str) -> io::Result<u32> {
+        let folder = self.folder.open(path);
+        let path = copy(self.rt, path.as_bytes());
+        self.note(Note::OpenFolder(path, folder));
+        folder.ok_or(io::Error::from(io::ErrorKind::Other))
+    }
+
+    fn names(&mut self, _folder: &str) -> io::Result<Vec<String>> {
+        self.folder.names(self.rt.alloc())
+    }
+
+    fn next_name(&mut self, names: &mut Vec<String>) -> Option<io::Result<String>> {
+        self.folder.next_name(names)
+    }
+
+    fn name_of<'a>(&self, entry: &'a String) -> &'a str {
+        entry.as_str()
+    }
+
+    fn remove_unlocked(&mut self, entry: &String) -> io::Result<()> {
+        let done = self.folder.remove_unlocked(entry.as_str());
+        let name = copy(self.rt, entry.as_bytes());
+        self.note(Note::RemoveUnlocked(name, done));
+        told(done)
+    }
+
+    fn random(&mut self, bytes: &mut [u8]) -> io::Result<()> {
+        let done = self.folder.random(bytes);
+        let drawn = copy(self.rt, bytes);
+        self.note(Note::Random(drawn, done));
+        told(done)
+    }
+
+    fn create(&mut self, path: &str) -> io::Result<u32> {
+        let file = self.folder.create(self.rt.alloc(), path);
+        let path = copy(self.rt, path.as_bytes());
+        self.note(Note::Create(path, file));
+        file.ok_or(io::Error::from(io::ErrorKind::Other))
+    }
+
+    fn lock(&mut self, file: &u32) -> io::Result<()> {
+        let done = self.folder.lock(*file);
+        self.note(Note::Lock(*file, done));
+        told(done)
+    }
+
+    fn set_mode(&mut self, file: &u32, mode: u32) -> io::Result<()> {
+        let done = self.folder.set_mode(*file, mode);
+        self.note(Note::SetMode(*file, mode, done));
+        told(done)
+    }
+
+    fn set_owner(&mut self, file: &u32, user: Option<u32>, group: u32) -> io::Result<()> {
+        let done = self.folder.set_owner(*file, user, group);
+        self.note(Note::SetOwner(*file, user, group, done));
+        told(done)
+    }
+
+    fn write(&mut self, file: &u32, bytes: &[u8]) -> io::Result<()> {
+        let done = self.folder.write(*file, bytes);
+        let written = copy(self.rt, bytes);
+        self.note(Note::Write(*file, written, done));
+        told(done)
+    }
+
+    fn access(&mut self, path: &str) -> io::Result<Option<Access>> {
+        let found = self.folder.access(path);
+        let path = copy(self.rt, path.as_bytes());
+        self.note(Note::Look(path, found));
+        found.ok_or(io::Error::from(io::ErrorKind::Other))
+    }
+
+    fn sync(&mut self, file: &u32) -> io::Result<()> {
+        let done = self.folder.sync(*file);
+        self.note(Note::Sync(*file, done));
+        told(done)
+    }
+
+    fn rename(&mut self, old: &str, new: &str) -> io::Result<()> {
+        let done = self.folder.rename(self.rt.alloc(), old, new);
+        let old = copy(self.rt, old.as_bytes());
+        let new = copy(self.rt, new.as_bytes());
+        self.note(Note::Rename(old, new, done));
+        told(done)
+    }
+
+    fn remove(&mut self, path: &str) -> io::Result<()> {
+        let done = self.folder.remove(path);
+        let path = copy(self.rt, path.as_bytes());
+        self.note(Note::Remove(path, done));
+        told(done)
+    }
+}

@@ -156,7 +156,7 @@ has_cxx = { command -v $(firstword $(CXX)) >/dev/null || \
 has_avx2 = { grep -qw avx2 /proc/cpuinfo || { echo 'left out: x86-64-v3, without AVX2'; false; }; }
 
 # The tests of statuses and values.
-STATUS_TESTS = test merkle password_hashes tokens
+STATUS_TESTS = test merkle password_hashes tokens webhooks tls13
 
 # Each status and each vector, threads that share a key, and how much stack the calls take.
 test: $(TESTED)
@@ -267,13 +267,13 @@ installed: all
 moved: $(ARCHIVE)
 	c/test/moved $(ARCHIVE)
 
-# The instructions but for those of `count_before` and `put_number`, which read and write the
-# decimals of an iteration count, of `put_base64` and of base64's own calls, which divide the length
-# of a field or a token, as `yz_jws_sign` does, and of `yz_password_hash_salt`, which makes letters
-# of random bytes: a password hash's text, with its salt, is no secret, and no length is. Nor is a
-# time, which `yz_totp` and `yz_totp_find` divide. `write` and `find_hotp_counted` make digits of
-# four bytes of a tag: CALLS.md says so.
-PUBLIC = count_before|put_(base64|number)|yz_password_hash_salt|code_slice|yz_(jws_sign|totp)
+# The instructions but for those of `number_in` and `put_number`, which read and write the decimals
+# of an iteration count and of a time in a header, of `put_base64` and of base64's own calls, which
+# divide the length of a field or a token, as `yz_jws_sign` does, and of `yz_password_hash_salt`,
+# which makes letters of random bytes: a password hash's text, with its salt, is no secret, and no
+# length is. Nor is a time, which `yz_totp` and `yz_totp_find` divide. `write` and
+# `find_hotp_counted` make digits of four bytes of a tag: CALLS.md says so.
+PUBLIC = number_in|put_(base64|number)|yz_password_hash_salt|code_slice|yz_(jws_sign|totp)
 OF_DIGITS = otp(\.|::)(write|find_hotp_counted)
 of_secrets = awk '/^[0-9a-f]+ </ { open = /$(PUBLIC)|$(OF_DIGITS)/ } !open' \
     $(OUT)/archive.text
@@ -314,6 +314,9 @@ define INSTRUCTIONS
 endef
 endif
 
+# What a linker defines by itself, and Debian 11's assembler names in an object.
+LINKERS = _GLOBAL_OFFSET_TABLE_
+
 # The tables of addresses of constants, which nothing writes once they are loaded.
 addresses = $(SIZE) -A $(WHOLE) | awk '/^\.data\.rel\.ro\./ { sum += $$2 } END { print sum + 0 }'
 
@@ -322,7 +325,8 @@ addresses = $(SIZE) -A $(WHOLE) | awk '/^\.data\.rel\.ro\./ { sum += $$2 } END {
 # of processor.c, and no other instructions than the above. The kernels over the processor's SHA
 # instructions have these as often as a block takes them, and no other function has any.
 exports: all
-	test "$$($(NM) -u $(WHOLE) | awk '$$1 == "U" { print $$2 }' | sort | xargs)" = '$(CALLED)'
+	test "$$($(NM) -u $(WHOLE) | awk '$$1 == "U" && $$2 != "$(LINKERS)" { print $$2 }' | sort \
+	    | xargs)" = '$(CALLED)'
 	$(NM) -g --defined-only $(WHOLE) | awk '{ print $$3 }' | sort | xargs >$(OUT)/whole.names
 	$(NM) -D --defined-only $(SHARED) | awk '$$2 == "T" { sub(/@.*/, "", $$3); print $$3 }' \
 	    | sort | xargs >$(OUT)/shared.names
@@ -330,7 +334,7 @@ exports: all
 	diff $(OUT)/whole.names $(OUT)/shared.names
 	test "$$($(SIZE) $(WHOLE) | awk 'NR > 1 { print $$2, $$3 }')" = "$$(($$($(addresses)) + 8)) 2"
 	$(OBJDUMP) -d $(WHOLE) >$(OUT)/archive.text
-	grep -q '\bret\b' $(OUT)/archive.text
+	grep -q '\bretq\?\b' $(OUT)/archive.text
 	$(INSTRUCTIONS)
 	$(of_kernels) >$(OUT)/archive.kernels
 	for it in 'sha1 $(OF_SHA1)' 'sha2 $(OF_SHA256)'; do for of in blocks words; do \

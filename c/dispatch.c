@@ -105,6 +105,16 @@ CALL(yz_totp_find, , ALONE, algorithm,
       size_t digits, TEXT(text), uint64_t *counter),
      (algorithm, BYTES(key), time, step, back, ahead, digits, BYTES(text), counter))
 
+/* So do webhooks, those of GitHub and Stripe under SHA-256. */
+CALL(yz_webhook_verify_hex, , ALONE, algorithm,
+     (uint32_t algorithm, IN(secret), TEXT(prefix), IN(body), TEXT(header)),
+     (algorithm, BYTES(secret), BYTES(prefix), BYTES(body), BYTES(header)))
+CALL(yz_webhook_verify_github, , ALONE, YZ_SHA256,
+     (IN(secret), IN(body), TEXT(header)), (BYTES(secret), BYTES(body), BYTES(header)))
+CALL(yz_webhook_verify_stripe, , ALONE, YZ_SHA256,
+     (IN(secret), IN(body), TEXT(header), uint64_t now, uint64_t tolerance),
+     (BYTES(secret), BYTES(body), BYTES(header), now, tolerance))
+
 CALL(yz_hkdf_extract, , ALONE, algorithm,
      (uint32_t algorithm, IN(salt), IN(secret), OUT(out)),
      (algorithm, BYTES(salt), BYTES(secret), BYTES(out)))
@@ -117,6 +127,15 @@ CALL(yz_hkdf_expand_label, , ALONE, algorithm,
 CALL(yz_hkdf, , ALONE, algorithm,
      (uint32_t algorithm, IN(salt), IN(secret), IN(info), OUT(out)),
      (algorithm, BYTES(salt), BYTES(secret), BYTES(info), BYTES(out)))
+CALL(yz_tls13_finished, , ALONE, algorithm,
+     (uint32_t algorithm, IN(base_key), IN(transcript_hash), OUT(out)),
+     (algorithm, BYTES(base_key), BYTES(transcript_hash), BYTES(out)))
+CALL(yz_tls13_finished_verify, , ALONE, algorithm,
+     (uint32_t algorithm, IN(base_key), IN(transcript_hash), IN(verify_data)),
+     (algorithm, BYTES(base_key), BYTES(transcript_hash), BYTES(verify_data)))
+CALL(yz_tls13_binder_key, , ALONE, algorithm,
+     (uint32_t algorithm, IN(psk), bool is_external, OUT(out)),
+     (algorithm, BYTES(psk), is_external, BYTES(out)))
 
 CALL(yz_pbkdf2_derive, _wide, pbkdf2_work(algorithm, out_len), algorithm,
      (uint32_t algorithm, uint32_t iterations, IN(salt), IN(secret), OUT(out)),

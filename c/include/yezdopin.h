@@ -2,10 +2,11 @@
  * Copyright 2026 the Yezdopin authors.
  *
  * Digests (FIPS 180-4), tags (HMAC, RFC 2104), derived keys (HKDF, RFC 5869, also by the labels of
- * TLS 1.3, RFC 8446; PBKDF2, RFC 2898), password hashes, Merkle trees of transparency logs (RFC
- * 9162), signed tokens (JWS, RFC 7515) and one-time passwords (HOTP, RFC 4226; TOTP, RFC 6238),
- * each call proved to give the standard's bytes. CALLS.md, installed as
- * share/doc/yezdopin/CALLS.md, says what is proved and what is not. All lengths are in bytes.
+ * TLS 1.3, RFC 8446; PBKDF2, RFC 2898), Finished messages and binders of TLS 1.3, password hashes,
+ * Merkle trees of transparency logs (RFC 9162), signed tokens (JWS, RFC 7515), one-time passwords
+ * (HOTP, RFC 4226; TOTP, RFC 6238) and signatures of webhooks, each call proved to give the
+ * standard's bytes. CALLS.md, installed as share/doc/yezdopin/CALLS.md, says what is proved and
+ * what is not. All lengths are in bytes.
  *
  * Each call returns whatever it is given. Calls allocate nothing, set no errno, and keep no state
  * but two bytes that remember what the processor has: on one with x86-64-v3 (AVX2) or with SHA
@@ -268,6 +269,31 @@ yz_status yz_hkdf_expand_label(uint32_t algorithm, const uint8_t *secret, size_t
                                const uint8_t *context, size_t context_len,
                                uint8_t *out, size_t out_len) YZ_MUST_CHECK;
 
+/* The verify_data of a Finished message of TLS 1.3 (RFC 8446, 4.4.4), and its verification. The
+ * base key is a traffic secret of the handshake, and `transcript_hash` that of the messages before
+ * the Finished. A binder (4.2.11.2) is made in the same way, of the key that yz_tls13_binder_key
+ * writes and the hash of the ClientHello up to its binders. The algorithm is that of the cipher
+ * suite: YZ_SHA256 or YZ_SHA384 in RFC 8446; the others of HKDF are taken as by
+ * yz_hkdf_expand_label.
+ *
+ * `base_key_len`, `transcript_hash_len` and `out_len` are yz_output_len of the algorithm, or the
+ * calls answer YZ_WRONG_LENGTH. A verification answers YZ_OK exactly where `verify_data` is what
+ * yz_tls13_finished writes, and reads all of it before it answers. */
+yz_status yz_tls13_finished(uint32_t algorithm, const uint8_t *base_key, size_t base_key_len,
+                            const uint8_t *transcript_hash, size_t transcript_hash_len,
+                            uint8_t *out, size_t out_len) YZ_MUST_CHECK;
+yz_status yz_tls13_finished_verify(uint32_t algorithm, const uint8_t *base_key, size_t base_key_len,
+                                   const uint8_t *transcript_hash, size_t transcript_hash_len,
+                                   const uint8_t *verify_data,
+                                   size_t verify_data_len) YZ_MUST_CHECK;
+
+/* The base key of a binder (RFC 8446, 7.1): Derive-Secret(HKDF-Extract(0, PSK), "ext binder", "")
+ * of a pre-shared key that was established out of band, with "res binder" of one from an earlier
+ * session. `out_len` is yz_output_len of the algorithm, or the call answers YZ_WRONG_LENGTH. An
+ * empty pre-shared key, as of a variable that nobody set, is answered by YZ_UNSPECIFIED. */
+yz_status yz_tls13_binder_key(uint32_t algorithm, const uint8_t *psk, size_t psk_len,
+                              bool is_external, uint8_t *out, size_t out_len) YZ_MUST_CHECK;
+
 /* PBKDF2, and its verification. `out_len` is at most YZ_PBKDF2_MAX_OUT_LEN of the algorithm's
  * yz_output_len, or yz_pbkdf2_derive answers YZ_WRONG_LENGTH. A verification answers YZ_OK exactly
  * where `derived` isn't empty and is what yz_pbkdf2_derive gives for its length, and reads all of
@@ -476,6 +502,34 @@ yz_status yz_totp_find(uint32_t algorithm, const uint8_t *key, size_t key_len,
                        uint64_t time, uint32_t step, uint32_t back, uint32_t ahead,
                        size_t digits, const char *text, size_t text_len,
                        uint64_t *counter) YZ_MUST_CHECK;
+
+/* Signatures of webhooks: headers with a tag of the body, in hex, in lower case. Each of these
+ * calls answers YZ_OK exactly where the header is right, and else YZ_UNSPECIFIED, also under an
+ * empty secret, as of a variable that nobody set. The body is that of the request, byte by byte,
+ * not one that was parsed and written again. The whole tag is compared, whatever the header is.
+ *
+ * Nothing here tells a request from one that was sent before: a sender's number for each, as
+ * GitHub's `X-GitHub-Delivery`, does. */
+
+/* The header is `prefix`, which may be empty, and the tag by an algorithm of yz_hmac_sign. */
+yz_status yz_webhook_verify_hex(uint32_t algorithm, const uint8_t *secret, size_t secret_len,
+                                const char *prefix, size_t prefix_len,
+                                const uint8_t *body, size_t body_len,
+                                const char *header, size_t header_len) YZ_MUST_CHECK;
+
+/* GitHub's `X-Hub-Signature-256`: "sha256=" and the tag by YZ_SHA256. */
+yz_status yz_webhook_verify_github(const uint8_t *secret, size_t secret_len,
+                                   const uint8_t *body, size_t body_len,
+                                   const char *header, size_t header_len) YZ_MUST_CHECK;
+
+/* Stripe's `Stripe-Signature`: "t=" and a time first, in seconds since the beginning of 1970, and
+ * among the items after it, between commas, "v1=" and the tag by YZ_SHA256 of the time as it stands
+ * there, a full stop and the body. It is right where `now` is at most `tolerance` seconds after the
+ * time: Stripe's libraries take 300. A time after `now` is right too. */
+yz_status yz_webhook_verify_stripe(const uint8_t *secret, size_t secret_len,
+                                   const uint8_t *body, size_t body_len,
+                                   const char *header, size_t header_len,
+                                   uint64_t now, uint64_t tolerance) YZ_MUST_CHECK;
 
 /* Whether both are equal. Where the lengths agree it reads all of both. */
 bool yz_equal(const uint8_t *a, size_t a_len, const uint8_t *b, size_t b_len) YZ_MUST_CHECK;

@@ -4,8 +4,9 @@
  * pieces is made by each build and ended by the other, and made again by a build that is drawn for
  * each step. Garbage in the place of contexts and keys has the same answers in both. The calls that
  * run several messages or rounds of output side by side give the same in both, at both widths, and
- * each build verifies the other's paths of Merkle trees and signed tokens, and finds its one-time
- * passwords. Messages, pieces and builds are drawn at random, in each run the same. */
+ * each build verifies the other's paths of Merkle trees, signed tokens, binders and headers of
+ * webhooks, and finds its one-time passwords. Messages, pieces and builds are drawn at random, in
+ * each run the same. */
 #include "../rows.h"
 #include "yezdopin.h"
 #include <stdio.h>
@@ -57,6 +58,12 @@ __typeof__(yz_hotp) v3_yz_hotp;
 __typeof__(yz_totp) v3_yz_totp;
 __typeof__(yz_hotp_find) v3_yz_hotp_find;
 __typeof__(yz_totp_find) v3_yz_totp_find;
+__typeof__(yz_tls13_finished) v3_yz_tls13_finished;
+__typeof__(yz_tls13_finished_verify) v3_yz_tls13_finished_verify;
+__typeof__(yz_tls13_binder_key) v3_yz_tls13_binder_key;
+__typeof__(yz_webhook_verify_hex) v3_yz_webhook_verify_hex;
+__typeof__(yz_webhook_verify_github) v3_yz_webhook_verify_github;
+__typeof__(yz_webhook_verify_stripe) v3_yz_webhook_verify_stripe;
 __typeof__(yz_merkle_leaf) v3_yz_merkle_leaf;
 __typeof__(yz_merkle_root) v3_yz_merkle_root;
 __typeof__(yz_merkle_inclusion_path) v3_yz_merkle_inclusion_path;
@@ -87,6 +94,12 @@ typedef struct {
     __typeof__(yz_totp) *totp;
     __typeof__(yz_hotp_find) *hotp_find;
     __typeof__(yz_totp_find) *totp_find;
+    __typeof__(yz_tls13_finished) *finished;
+    __typeof__(yz_tls13_finished_verify) *finished_verify;
+    __typeof__(yz_tls13_binder_key) *binder_key;
+    __typeof__(yz_webhook_verify_hex) *verify_hex;
+    __typeof__(yz_webhook_verify_github) *verify_github;
+    __typeof__(yz_webhook_verify_stripe) *verify_stripe;
     __typeof__(yz_merkle_leaf) *leaf;
     __typeof__(yz_merkle_root) *root;
     __typeof__(yz_merkle_inclusion_path) *inclusion_path;
@@ -101,16 +114,19 @@ static const build BUILD[BUILDS] = {
     {yz_digest, yz_digest_init, yz_digest_update, yz_digest_final, yz_hmac_sign, yz_hmac_verify,
      yz_hmac_key_init, yz_hmac_key_sign, yz_hmac_key_verify, yz_hmac_init, yz_hmac_update,
      yz_hmac_final, yz_hkdf_extract, yz_hkdf_expand, yz_hkdf_expand_label, yz_hkdf,
-     yz_jws_sign, yz_jws_verify, yz_hotp, yz_totp, yz_hotp_find, yz_totp_find, yz_merkle_leaf,
-     yz_merkle_root, yz_merkle_inclusion_path, yz_merkle_consistency_path,
-     yz_merkle_verify_inclusion, yz_merkle_verify_consistency},
+     yz_jws_sign, yz_jws_verify, yz_hotp, yz_totp, yz_hotp_find, yz_totp_find, yz_tls13_finished,
+     yz_tls13_finished_verify, yz_tls13_binder_key, yz_webhook_verify_hex, yz_webhook_verify_github,
+     yz_webhook_verify_stripe, yz_merkle_leaf, yz_merkle_root, yz_merkle_inclusion_path,
+     yz_merkle_consistency_path, yz_merkle_verify_inclusion, yz_merkle_verify_consistency},
     {v3_yz_digest, v3_yz_digest_init, v3_yz_digest_update, v3_yz_digest_final, v3_yz_hmac_sign,
      v3_yz_hmac_verify, v3_yz_hmac_key_init, v3_yz_hmac_key_sign, v3_yz_hmac_key_verify,
      v3_yz_hmac_init, v3_yz_hmac_update, v3_yz_hmac_final, v3_yz_hkdf_extract, v3_yz_hkdf_expand,
      v3_yz_hkdf_expand_label, v3_yz_hkdf, v3_yz_jws_sign, v3_yz_jws_verify, v3_yz_hotp,
-     v3_yz_totp, v3_yz_hotp_find, v3_yz_totp_find, v3_yz_merkle_leaf, v3_yz_merkle_root,
-     v3_yz_merkle_inclusion_path, v3_yz_merkle_consistency_path, v3_yz_merkle_verify_inclusion,
-     v3_yz_merkle_verify_consistency},
+     v3_yz_totp, v3_yz_hotp_find, v3_yz_totp_find, v3_yz_tls13_finished,
+     v3_yz_tls13_finished_verify, v3_yz_tls13_binder_key, v3_yz_webhook_verify_hex,
+     v3_yz_webhook_verify_github, v3_yz_webhook_verify_stripe, v3_yz_merkle_leaf,
+     v3_yz_merkle_root, v3_yz_merkle_inclusion_path, v3_yz_merkle_consistency_path,
+     v3_yz_merkle_verify_inclusion, v3_yz_merkle_verify_consistency},
 };
 
 /* The calls of both builds that run several side by side, as many as is usual and as are wide. */
@@ -355,6 +371,53 @@ static void password(uint32_t n, const uint8_t *bytes, size_t key_len, uint64_t 
     }
 }
 
+/* A binder, or a Finished of the same key: each build verifies it, and refuses it with a bit
+ * turned. */
+static void finished(uint32_t n, const uint8_t *bytes, size_t psk_len) {
+    uint8_t key[BUILDS][YZ_MAX_OUTPUT_LEN], out[BUILDS][YZ_MAX_OUTPUT_LEN];
+    const size_t len = yz_output_len(n);
+    const bool is_external = below(2);
+    for (int i = 0; i < BUILDS; i++)
+        must(BUILD[i].binder_key(n, bytes, psk_len, is_external, key[i], len) == YZ_OK &&
+                 BUILD[i].finished(n, key[i], len, bytes + MOST_KEY, len, out[i], len) == YZ_OK,
+             "a binder");
+    must(!memcmp(key[V2], key[V3], len) && !memcmp(out[V2], out[V3], len), "binders are the same");
+    for (int right = 1; right >= 0; right--, out[V2][below(len)] ^= 1)
+        for (int i = 0; i < BUILDS; i++)
+            must(BUILD[i].finished_verify(n, key[i], len, bytes + MOST_KEY, len, out[V2], len) ==
+                     (right ? YZ_OK : YZ_UNSPECIFIED), "a binder is verified");
+}
+
+static bool is_header(const build *it, uint32_t n, const uint8_t *secret, size_t secret_len,
+                      const uint8_t *body, size_t body_len, const char *text, size_t len) {
+    yz_status status =
+        it->verify_hex(n, secret, secret_len, "sha256=", 7, body, body_len, text, len);
+    must(n != YZ_SHA256 || status == it->verify_github(secret, secret_len, body, body_len, text,
+                                                       len), "GitHub's are of the same form");
+    return status == YZ_OK;
+}
+
+/* The header of a webhook, of Stripe's if so, which has a time before the body: each build verifies
+ * it, and refuses it with a bit turned. */
+static void header(uint32_t n, const uint8_t *bytes, size_t body_len, bool is_stripes) {
+    static uint8_t signed_bytes[2 + MOST_PAYLOAD] = "7.";
+    char text[8 + 2 * YZ_MAX_OUTPUT_LEN];
+    uint8_t tag[YZ_MAX_OUTPUT_LEN];
+    const size_t secret_len = 1 + below(MOST_KEY), out_len = yz_output_len(n);
+    const uint8_t *body = signed_bytes + 2, *from = is_stripes ? signed_bytes : body;
+    memcpy(signed_bytes + 2, bytes + MOST_KEY, body_len);
+    must(either()->hmac_sign(n, bytes, secret_len, from, body_len + (is_stripes ? 2 : 0), tag,
+                             out_len) == YZ_OK, "the tag of a body");
+    memcpy(text, is_stripes ? "t=7,v1=" : "sha256=", 7);
+    for (size_t i = 0; i < out_len; i++) snprintf(text + 7 + 2 * i, 3, "%02x", tag[i]);
+    for (int right = 1; right >= 0; right--, text[below(7 + 2 * out_len)] ^= 1)
+        for (int i = 0; i < BUILDS; i++)
+            must((is_stripes ? BUILD[i].verify_stripe(bytes, secret_len, body, body_len, text,
+                                                      7 + 2 * out_len, 9, 2) == YZ_OK
+                             : is_header(&BUILD[i], n, bytes, secret_len, body, body_len, text,
+                                         7 + 2 * out_len)) == (right != 0), "a header is verified");
+}
+
 int main(void) {
     static uint8_t message[MOST_MESSAGE];
     for (size_t i = 0; i < MOST_MESSAGE; i++) message[i] = (uint8_t)rand();
@@ -376,9 +439,12 @@ int main(void) {
         token(YZ_SHA256 + (uint32_t)below(3), message, below(MOST_PAYLOAD));
         password(1 + (uint32_t)below(YZ_SHA512), message, 1 + below(MOST_KEY),
                  (uint64_t)rand() << below(28));
+        finished(1 + (uint32_t)below(YZ_SHA512), message, 1 + below(MOST_KEY));
+        header(1 + (uint32_t)below(YZ_SHA512), message, below(MOST_PAYLOAD), false);
+        header(YZ_SHA256, message, below(MOST_PAYLOAD), true);
     }
     for (int turn = 0; turn < GARBAGE; turn++) garbage(message);
     printf("both builds agree: %d messages in %ld pieces, %d lists of messages, %d derived keys of "
-           "each kind, %d trees, %d tokens and passwords, %d times garbage\n", MESSAGES, steps,
-           LISTS, DERIVATIONS, TREES, TOKENS, GARBAGE);
+           "each kind, %d trees, %d tokens, passwords, binders and headers, %d times garbage\n",
+           MESSAGES, steps, LISTS, DERIVATIONS, TREES, TOKENS, GARBAGE);
 }

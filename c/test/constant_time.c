@@ -154,6 +154,72 @@ static void expansions(secrets *its, uint32_t n) {
     end("HKDF of salt, secret, PRK, info, label and context", n, false);
 }
 
+static void finished(secrets *its, uint32_t n) {
+    size_t len = yz_output_len(n);
+    begin();
+    for (size_t i = 0; i < len; i++)
+        for (int same = 0; same < 2; same++) {
+            hide(its);
+            is(yz_tls13_finished(n, its->key, len, its->message, len, its->tag, len), YZ_OK);
+            if (!same) its->tag[i] ^= 1;
+            is(yz_tls13_finished_verify(n, its->key, len, its->message, len, its->tag, len),
+               same ? YZ_OK : YZ_UNSPECIFIED);
+        }
+    for (size_t i = 1; i < LENGTHS; i++) {
+        hide(its);
+        is(yz_tls13_binder_key(n, its->key, LEN[i], i % 2, its->out, len), YZ_OK);
+    }
+    end("Finished of base key and hash, and a binder's key", n, false);
+}
+
+/* Writes a tag as hex behind a prefix, and makes the text known: a header is no secret. */
+static size_t header_of(char *header, const char *prefix, uint8_t *tag, size_t len) {
+    size_t at = strlen(prefix);
+    memcpy(header, prefix, at);
+    SHOW(tag, len);
+    for (size_t i = 0; i < len; i++, at += 2) snprintf(header + at, 3, "%02x", tag[i]);
+    return at;
+}
+
+static void webhooks(secrets *its, uint32_t n) {
+    char header[16 + 2 * YZ_MAX_OUTPUT_LEN];
+    size_t len = yz_output_len(n);
+    begin();
+    for (size_t i = 1; i < LENGTHS; i++)
+        for (int same = 0; same < 2; same++) {
+            yz_status wanted = same ? YZ_OK : YZ_UNSPECIFIED;
+            is(yz_hmac_sign(n, its->key, LEN[i], its->message, other(i), its->tag, len), YZ_OK);
+            size_t size = header_of(header, "sha256=", its->tag, len);
+            if (!same) header[7 + i] ^= 1;
+            hide(its);
+            is(yz_webhook_verify_hex(n, its->key, LEN[i], header, 7, its->message, other(i), header,
+                                     size), wanted);
+            if (n != YZ_SHA256) continue;
+            is(yz_webhook_verify_github(its->key, LEN[i], its->message, other(i), header, size),
+               wanted);
+        }
+    end("headers of webhooks", n, false);
+}
+
+/* What Stripe signs: a time and a full stop before the body. */
+static void stripe(secrets *its) {
+    char header[16 + 2 * YZ_MAX_OUTPUT_LEN];
+    size_t len = YZ_SHA256_OUTPUT_LEN;
+    begin();
+    for (size_t i = 1; i < LENGTHS; i++)
+        for (int same = 0; same < 2; same++) {
+            uint8_t *body = its->message + 2;
+            hide(its);
+            memcpy(its->message, "7.", 2);
+            is(yz_hmac_sign(YZ_SHA256, its->key, LEN[i], its->message, 11, its->tag, len), YZ_OK);
+            size_t size = header_of(header, "t=7,v1=,v1=", its->tag, len);
+            if (!same) header[11 + i] ^= 1;
+            is(yz_webhook_verify_stripe(its->key, LEN[i], body, 9, header, size, 9, 2),
+               same ? YZ_OK : YZ_UNSPECIFIED);
+        }
+    end("a header of Stripe's", YZ_SHA256, false);
+}
+
 static void derivations(secrets *its, uint32_t n) {
     const uint8_t *salt = its->message, *secret = its->key;
     begin();
@@ -223,7 +289,9 @@ int main(void) {
     for (uint32_t n = 1; n <= ALGORITHMS_COUNT; n++)
         digests(&its, n), digests_of_several(&its, n), outputs_are_secret(&its, n);
     for (uint32_t n = YZ_SHA1; n <= YZ_SHA512; n++)
-        tags(&its, n), verified_tags(&its, n), expansions(&its, n), derivations(&its, n);
+        tags(&its, n), verified_tags(&its, n), expansions(&its, n), derivations(&its, n),
+            finished(&its, n), webhooks(&its, n);
+    stripe(&its);
     password_hashes(&its);
     planted(&its);
     return faults != 0;

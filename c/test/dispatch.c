@@ -128,6 +128,15 @@ STAND_INS(yz_totp_find, ,
           (uint32_t a, in b, size_t c, uint64_t d, uint32_t e, uint32_t f, uint32_t g, size_t h,
            const char *i, size_t j, uint64_t *k),
           N(a), N(b), N(c), N(d), N(e), N(f), N(g), N(h), N(i), N(j), N(k))
+STAND_INS(yz_webhook_verify_hex, ,
+          (uint32_t a, in b, size_t c, const char *d, size_t e, in f, size_t g, const char *h,
+           size_t i),
+          N(a), N(b), N(c), N(d), N(e), N(f), N(g), N(h), N(i))
+STAND_INS(yz_webhook_verify_github, , (in a, size_t b, in c, size_t d, const char *e, size_t f),
+          N(a), N(b), N(c), N(d), N(e), N(f))
+STAND_INS(yz_webhook_verify_stripe, ,
+          (in a, size_t b, in c, size_t d, const char *e, size_t f, uint64_t g, uint64_t h),
+          N(a), N(b), N(c), N(d), N(e), N(f), N(g), N(h))
 STAND_INS(yz_hkdf_extract, , (uint32_t a, in b, size_t c, in d, size_t e, out f, size_t g),
           N(a), N(b), N(c), N(d), N(e), N(f), N(g))
 STAND_INS(yz_hkdf_expand, , (uint32_t a, in b, size_t c, in d, size_t e, out f, size_t g),
@@ -137,6 +146,13 @@ STAND_INS(yz_hkdf_expand_label, ,
           N(a), N(b), N(c), N(d), N(e), N(f), N(g), N(h), N(i))
 STAND_INS(yz_hkdf, , (uint32_t a, in b, size_t c, in d, size_t e, in f, size_t g, out h, size_t i),
           N(a), N(b), N(c), N(d), N(e), N(f), N(g), N(h), N(i))
+STAND_INS(yz_tls13_finished, , (uint32_t a, in b, size_t c, in d, size_t e, out f, size_t g),
+          N(a), N(b), N(c), N(d), N(e), N(f), N(g))
+STAND_INS(yz_tls13_finished_verify, ,
+          (uint32_t a, in b, size_t c, in d, size_t e, in f, size_t g),
+          N(a), N(b), N(c), N(d), N(e), N(f), N(g))
+STAND_INS(yz_tls13_binder_key, , (uint32_t a, in b, size_t c, bool d, out e, size_t f),
+          N(a), N(b), N(c), N(d), N(e), N(f))
 STAND_INS(yz_pbkdf2_derive, _wide,
           (uint32_t a, uint32_t b, in c, size_t d, in e, size_t f, out g, size_t h),
           N(a), N(b), N(c), N(d), N(e), N(f), N(g), N(h))
@@ -165,7 +181,7 @@ STAND_INS(yz_merkle_consistency_path, ,
 
 /* The calls, and their arguments in their order: the number of an algorithm, a context or a key
  * of it, messages, places of some bytes and of hashes, of a size and of a counter that are written,
- * lengths, and what is counted by itself. */
+ * lengths, what is true, and what is counted by itself. */
 static const struct {
     const char *name, *arguments;
 } CALLS[] = {
@@ -176,15 +192,18 @@ static const struct {
     {"yz_hmac_final", "tpl"},
     {"yz_jws_sign", "nplplpls"}, {"yz_jws_verify", "nplplpls"}, {"yz_hotp", "npllpl"},
     {"yz_totp", "nplllpl"}, {"yz_hotp_find", "npllllplu"}, {"yz_totp_find", "npllllllplu"},
+    {"yz_webhook_verify_hex", "nplplplpl"},
     {"yz_hkdf", "nplplplpl"}, {"yz_hkdf_extract", "nplplpl"}, {"yz_hkdf_expand", "nplplpl"},
-    {"yz_hkdf_expand_label", "nplplplpl"},
+    {"yz_hkdf_expand_label", "nplplplpl"}, {"yz_tls13_finished", "nplplpl"},
+    {"yz_tls13_finished_verify", "nplplpl"}, {"yz_tls13_binder_key", "nplbpl"},
     {"yz_pbkdf2_derive", "nlplplpo"}, {"yz_pbkdf2_verify", "nlplplpo"},
     {"yz_password_hash_new", "llplplpls"}, {"yz_password_hash_verify", "plpll"},
+    {"yz_webhook_verify_github", "plplpl"}, {"yz_webhook_verify_stripe", "plplplll"},
     {"yz_merkle_leaf", "plh"}, {"yz_merkle_verify_inclusion", "hllhlh"},
     {"yz_merkle_verify_consistency", "lhlhhl"}, {"yz_merkle_root", "hlh"},
     {"yz_merkle_inclusion_path", "hllhls"}, {"yz_merkle_consistency_path", "hllhls"},
 };
-enum { NUM_CALLS = sizeof CALLS / sizeof *CALLS, EACH = 3, PBKDF2 = 21, PASSWORDS = 23 };
+enum { NUM_CALLS = sizeof CALLS / sizeof *CALLS, EACH = 3, PBKDF2 = 25, PASSWORDS = 27 };
 
 static yz_digest_context digest;
 static yz_hmac_context tag;
@@ -220,19 +239,25 @@ static yz_status call(int which, uint32_t n, size_t out_len) {
     case 14: return yz_totp(n, AT(1), 2, 3, 4, TEXT_AT(5), 6);
     case 15: return yz_hotp_find(n, AT(1), 2, 3, 4, 5, TEXT_AT(6), 7, &written_counter);
     case 16: return yz_totp_find(n, AT(1), 2, 3, 4, 5, 6, 7, TEXT_AT(8), 9, &written_counter);
-    case 17: return yz_hkdf(n, AT(1), 2, AT(3), 4, AT(5), 6, AT(7), 8);
-    case 18: return yz_hkdf_extract(n, AT(1), 2, AT(3), 4, AT(5), 6);
-    case 19: return yz_hkdf_expand(n, AT(1), 2, AT(3), 4, AT(5), 6);
-    case 20: return yz_hkdf_expand_label(n, AT(1), 2, AT(3), 4, AT(5), 6, AT(7), 8);
-    case 21: return yz_pbkdf2_derive(n, 1, AT(2), 3, AT(4), 5, AT(6), out_len);
-    case 22: return yz_pbkdf2_verify(n, 1, AT(2), 3, AT(4), 5, AT(6), out_len);
-    case 23: return yz_password_hash_new(0, 1, AT(2), 3, AT(4), 5, TEXT_AT(6), 7, &written_size);
-    case 24: return yz_password_hash_verify(TEXT_AT(0), 1, AT(2), 3, 4);
-    case 25: return yz_merkle_leaf(AT(0), 1, HASH(2));
-    case 26: return yz_merkle_verify_inclusion(HASH(0), 1, 2, HASH(3), 4, HASH(5));
-    case 27: return yz_merkle_verify_consistency(0, HASH(1), 2, HASH(3), HASH(4), 5);
-    case 28: return yz_merkle_root(HASH(0), 1, HASH(2));
-    case 29: return yz_merkle_inclusion_path(HASH(0), 1, 2, HASH(3), 4, &written_size);
+    case 17: return yz_webhook_verify_hex(n, AT(1), 2, TEXT_AT(3), 4, AT(5), 6, TEXT_AT(7), 8);
+    case 18: return yz_hkdf(n, AT(1), 2, AT(3), 4, AT(5), 6, AT(7), 8);
+    case 19: return yz_hkdf_extract(n, AT(1), 2, AT(3), 4, AT(5), 6);
+    case 20: return yz_hkdf_expand(n, AT(1), 2, AT(3), 4, AT(5), 6);
+    case 21: return yz_hkdf_expand_label(n, AT(1), 2, AT(3), 4, AT(5), 6, AT(7), 8);
+    case 22: return yz_tls13_finished(n, AT(1), 2, AT(3), 4, AT(5), 6);
+    case 23: return yz_tls13_finished_verify(n, AT(1), 2, AT(3), 4, AT(5), 6);
+    case 24: return yz_tls13_binder_key(n, AT(1), 2, true, AT(4), 5);
+    case 25: return yz_pbkdf2_derive(n, 1, AT(2), 3, AT(4), 5, AT(6), out_len);
+    case 26: return yz_pbkdf2_verify(n, 1, AT(2), 3, AT(4), 5, AT(6), out_len);
+    case 27: return yz_password_hash_new(0, 1, AT(2), 3, AT(4), 5, TEXT_AT(6), 7, &written_size);
+    case 28: return yz_password_hash_verify(TEXT_AT(0), 1, AT(2), 3, 4);
+    case 29: return yz_webhook_verify_github(AT(0), 1, AT(2), 3, TEXT_AT(4), 5);
+    case 30: return yz_webhook_verify_stripe(AT(0), 1, AT(2), 3, TEXT_AT(4), 5, 6, 7);
+    case 31: return yz_merkle_leaf(AT(0), 1, HASH(2));
+    case 32: return yz_merkle_verify_inclusion(HASH(0), 1, 2, HASH(3), 4, HASH(5));
+    case 33: return yz_merkle_verify_consistency(0, HASH(1), 2, HASH(3), HASH(4), 5);
+    case 34: return yz_merkle_root(HASH(0), 1, HASH(2));
+    case 35: return yz_merkle_inclusion_path(HASH(0), 1, 2, HASH(3), 4, &written_size);
     default: return yz_merkle_consistency_path(HASH(0), 1, 2, HASH(3), 4, &written_size);
     }
 }
@@ -249,6 +274,7 @@ static uintptr_t argument(char kind, size_t place, uint32_t n, size_t out_len) {
     case 'h': return (uintptr_t)HASH(place);
     case 's': return (uintptr_t)&written_size;
     case 'u': return (uintptr_t)&written_counter;
+    case 'b': return true;
     case 'o': return out_len;
     default: return place;
     }
@@ -284,7 +310,7 @@ static const struct {
     const char *work;
     size_t rounds; /* of output of PBKDF2, or messages */
 } ROWS[] = {{0, 2, "", 1}, {EACH, EACH, ": up to 3 messages", 3}, {EACH, EACH, ": more", 4},
-            {4, 16, "", 1}, {17, 20, "", 1}, {PBKDF2, PBKDF2 + 1, ": up to 3 rounds of output", 3},
+            {4, 17, "", 1}, {18, 24, "", 1}, {PBKDF2, PBKDF2 + 1, ": up to 3 rounds of output", 3},
             {PBKDF2, PBKDF2 + 1, ": more", 4}};
 
 /* Which code the calls of a row get: SHA instructions or a build. */

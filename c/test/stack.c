@@ -16,7 +16,7 @@
 #define PROMISED_TO_HASHES (20 * 1024)
 #define FIRST_OF_HASHES 19
 #define LAST_OF_HASHES 24
-#define LAST 36
+#define LAST 42
 #define PAINT 0xa5
 #define COUNT 10
 #define LEAVES 18
@@ -28,6 +28,12 @@ static const char hash[] = "$7$101$AAECAwQFBgcICQoL$cJ75j/0MokIxIQCU/t1k7JBGVfwD
 static const char keys[] = "SCRAM-SHA-256$1000:AAECAwQFBgcICQoLDA0ODw==$7xyJ1HnA2mtSyupYnfwfyMN/"
                            "J3bBFnm1azxiuCq93cA=:2gGHDOt/fKGk7q0t853S5/tlrW2XzQkPg60ChUqH8m4=";
 static const char password[] = "correct horse battery staple";
+#define DIGITS "0123456789abcdef0123456789abcdef"
+static const char header[] = "sha256=" DIGITS DIGITS DIGITS DIGITS;
+static const char stripe[] = "t=1492774577,v1=" DIGITS DIGITS ",v1=";
+
+/* The status of a call that refuses a wrong header, once it has compared it. */
+static yz_status wrong(yz_status status) { return status == YZ_UNSPECIFIED ? YZ_OK : status; }
 
 /* Runs one call on long inputs: a key past a block, several blocks, several rounds. What is large
  * is on no stack. */
@@ -120,9 +126,23 @@ static void run(void) {
         status = yz_hotp_find(n, bytes, 300, 0, 9, sizeof digits, digits, sizeof digits, &counter);
         break;
     case 35: status = yz_totp(n, bytes, 300, 59, 30, digits, sizeof digits); break;
-    case LAST:
+    case 36:
         status = yz_totp_find(n, bytes, 300, 89, 30, 1, 1, sizeof digits, digits, sizeof digits,
                               &counter);
+        break;
+    case 37: status = yz_tls13_finished(n, bytes, len, bytes + 99, len, out, len); break;
+    case 38: status = yz_tls13_finished_verify(n, bytes, len, bytes + 99, len, out, len); break;
+    case 39: status = yz_tls13_binder_key(n, bytes, 300, true, out, len); break;
+    case 40:
+        status = wrong(yz_webhook_verify_hex(n, bytes, 300, header, 7, bytes, 400, header,
+                                             7 + 2 * len));
+        break;
+    case 41:
+        status = wrong(yz_webhook_verify_github(bytes, 300, bytes, 400, header, 7 + 64));
+        break;
+    case LAST:
+        status = wrong(yz_webhook_verify_stripe(bytes, 300, bytes, 400, stripe, sizeof stripe - 1,
+                                                1492774577, 300));
         break;
     }
     if (status != YZ_OK) printf("call %d of algorithm %u answers %d\n", call, n, status);

@@ -1,8 +1,8 @@
 /* SPDX-License-Identifier: ISC */
 /* Answers each line of the files that it is given (docs/LINES.md and docs/SCHEDULES.md have their
  * formats) by these calls, and compares with what stands behind `#= ` below the line, but for the
- * number of blocks. Lines of whole key schedules are passed over. The digests are answered once
- * more, all of an algorithm by one call. */
+ * number of blocks. Lines of whole key schedules are passed over, but for Finished messages and
+ * binders. The digests are answered once more, all of an algorithm by one call. */
 #include "../rows.h"
 #include "yezdopin.h"
 #include <stdio.h>
@@ -125,6 +125,49 @@ static yz_status expand(uint32_t n, piece salt, piece secret, piece info, uint8_
     return status;
 }
 
+/* The bytes of hex digits, and for `none` as many zeros as a digest has. */
+static piece bytes_or_zeros(const char *hex, size_t len) {
+    if (strcmp(hex, "none")) return bytes_of(hex);
+    return (piece){held(calloc(len, 1)), len};
+}
+
+/* A secret of the handshake (RFC 8446, 7.1), by the words of its label, with `-` between them. */
+static yz_status traffic_secret(uint32_t n, piece psk, piece shared, const char *words, piece hash,
+                                uint8_t *secret) {
+    static const uint8_t ZEROS[YZ_MAX_OUTPUT_LEN];
+    uint8_t label[16], early[YZ_MAX_OUTPUT_LEN], nothing[YZ_MAX_OUTPUT_LEN];
+    size_t len = yz_output_len(n), label_len = strlen(words);
+    if (label_len > sizeof label) abort();
+    for (size_t i = 0; i < label_len; i++) label[i] = (uint8_t)(words[i] == '-' ? ' ' : words[i]);
+    yz_status status = yz_hkdf_extract(n, ZEROS, len, psk.bytes, psk.len, early, len);
+    if (!status) status = yz_digest(n, NULL, 0, nothing, len);
+    if (!status)
+        status = yz_hkdf_expand_label(n, early, len, (const uint8_t *)"derived", 7, nothing, len,
+                                      secret, len);
+    if (!status) status = yz_hkdf_extract(n, secret, len, shared.bytes, shared.len, early, len);
+    if (!status)
+        status = yz_hkdf_expand_label(n, early, len, label, label_len, hash.bytes, hash.len, secret,
+                                      len);
+    return status;
+}
+
+/* A Finished, or a binder, which must verify. */
+static yz_status finished(uint32_t n, char **field, uint8_t *out) {
+    uint8_t key[YZ_MAX_OUTPUT_LEN];
+    size_t len = yz_output_len(n);
+    piece psk = bytes_or_zeros(field[2], len), shared = bytes_or_zeros(field[3], len);
+    piece hash = bytes_of(field[5]), covered = bytes_of(strchr(field[6], ':') + 1);
+    yz_status status =
+        strstr(field[4], "binder")
+            ? yz_tls13_binder_key(n, psk.bytes, psk.len, *field[4] == 'e', key, len)
+            : traffic_secret(n, psk, shared, field[4], hash, key);
+    if (!status) status = yz_tls13_finished(n, key, len, covered.bytes, covered.len, out, len);
+    if (!status)
+        status = yz_tls13_finished_verify(n, key, len, covered.bytes, covered.len, out, len);
+    free(psk.bytes), free(shared.bytes), free(hash.bytes), free(covered.bytes);
+    return status;
+}
+
 /* Writes the answer to a line's fields as the files have it. */
 static void answer(char **field, int count, char *text) {
     static uint8_t out[65536];
@@ -153,6 +196,8 @@ static void answer(char **field, int count, char *text) {
         a = bytes_of(field[2]), b = bytes_of(field[3]), c = bytes_of(field[4]);
         len = length_of(field[5]);
         status = yz_hkdf_expand_label(n, a.bytes, a.len, b.bytes, b.len, c.bytes, c.len, out, len);
+    } else if (!strcmp(field[0], "tls13") && count == 7) {
+        status = finished(n, field, out);
     } else if (!strcmp(field[0], "pbkdf2") && count == 6) {
         a = bytes_of(field[3]), b = bytes_of(field[4]), len = length_of(field[5]);
         status = yz_pbkdf2_derive(n, iterations, b.bytes, b.len, a.bytes, a.len, out, len);
@@ -176,6 +221,7 @@ static void answer(char **field, int count, char *text) {
 /* Whether a line is of a whole key schedule, for which there is no call. */
 static bool is_of_schedule(const char *line) {
     static const char *const WORDS[] = {"tls13 ", "quic ", "packet "};
+    if (strstr(line, " finished:")) return false;
     for (size_t i = 0; i < sizeof WORDS / sizeof *WORDS; i++)
         if (!strncmp(line, WORDS[i], strlen(WORDS[i]))) return true;
     return false;

@@ -154,6 +154,50 @@ static bool password_verify(char **words) {
     return verdict(status);
 }
 
+static bool webhook_hex(char **words) {
+    piece prefix = field(words[2]), secret = field(words[3]), body = field(words[4]);
+    piece header = field(words[5]);
+    yz_status status = yz_webhook_verify_hex(
+        algorithm_of(words[1]), secret.bytes, secret.len, (const char *)prefix.bytes, prefix.len,
+        body.bytes, body.len, (const char *)header.bytes, header.len);
+    free(prefix.bytes), free(secret.bytes), free(body.bytes), free(header.bytes);
+    return verdict(status);
+}
+
+static bool webhook_github(char **words) {
+    piece secret = field(words[1]), body = field(words[2]), header = field(words[3]);
+    yz_status status = yz_webhook_verify_github(secret.bytes, secret.len, body.bytes, body.len,
+                                                (const char *)header.bytes, header.len);
+    free(secret.bytes), free(body.bytes), free(header.bytes);
+    return verdict(status);
+}
+
+static bool webhook_stripe(char **words) {
+    piece secret = field(words[1]), body = field(words[2]), header = field(words[3]);
+    yz_status status = yz_webhook_verify_stripe(secret.bytes, secret.len, body.bytes, body.len,
+                                                (const char *)header.bytes, header.len,
+                                                number(words[4]), number(words[5]));
+    free(secret.bytes), free(body.bytes), free(header.bytes);
+    return verdict(status);
+}
+
+/* The verify_data is compared by the call, and as it is made. */
+static bool tls13_finished(char **words) {
+    uint32_t n = algorithm_of(words[1]);
+    piece key = field(words[2]), hash = field(words[3]), data = field(words[4]);
+    uint8_t out[YZ_MAX_OUTPUT_LEN];
+    yz_status status = yz_tls13_finished_verify(n, key.bytes, key.len, hash.bytes, hash.len,
+                                                data.bytes, data.len);
+    yz_status made = yz_tls13_finished(n, key.bytes, key.len, hash.bytes, hash.len, out,
+                                       yz_output_len(n));
+    if (made != YZ_OK && made != YZ_WRONG_LENGTH) fault = "another status";
+    both(status == YZ_WRONG_LENGTH, made == YZ_WRONG_LENGTH);
+    bool answer = status != YZ_WRONG_LENGTH && verdict(status);
+    both(answer, made == YZ_OK && yz_equal(out, yz_output_len(n), data.bytes, data.len));
+    free(key.bytes), free(hash.bytes), free(data.bytes);
+    return answer;
+}
+
 static bool equal(char **words) {
     piece a = field(words[1]), b = field(words[2]);
     bool answer = yz_equal(a.bytes, a.len, b.bytes, b.len);
@@ -173,6 +217,10 @@ static enum answered answered(char **words, const char *wanted) {
     else if (!strcmp(word, "merkle-inclusion")) answer = merkle_inclusion(words);
     else if (!strcmp(word, "merkle-consistency")) answer = merkle_consistency(words);
     else if (!strcmp(word, "password-verify")) answer = password_verify(words);
+    else if (!strcmp(word, "webhook-hex")) answer = webhook_hex(words);
+    else if (!strcmp(word, "webhook-github")) answer = webhook_github(words);
+    else if (!strcmp(word, "webhook-stripe")) answer = webhook_stripe(words);
+    else if (!strcmp(word, "tls13-finished")) answer = tls13_finished(words);
     else if (!strcmp(word, "equal")) answer = equal(words);
     else return strstr(word, "-of-other-lengths") ? LEFT_OUT : DIFFERS;
     return answer == (strcmp(wanted, "mismatch") != 0) ? AGREES : DIFFERS;

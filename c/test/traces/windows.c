@@ -104,6 +104,38 @@ static void tokens(uint32_t n, size_t l, size_t m) {
            status = yz_jws_verify(n, a, l, token, 8 + len, out, sizeof out, &payload_len));
 }
 
+/* Wrong headers of webhooks, whose texts are public too. */
+static void webhooks(uint32_t n, size_t l, size_t m) {
+    static char header[16 + 2 * YZ_MAX_OUTPUT_LEN] = "sha256=";
+    static const char stripe[] =
+        "t=1492774577,v1=799c4ba7bb339f3c8601adfd112f0e477c930a268be1243d341abb8286501c2f,v1=";
+    size_t len = 7 + 2 * yz_output_len(n);
+    if (l == 0) return;
+    memset(header + 7, 'c', len - 7);
+    WINDOW("a wrong header", YZ_UNSPECIFIED,
+           status = yz_webhook_verify_hex(n, a, l, header, 7, b, m, header, len));
+    WINDOW("no header", YZ_UNSPECIFIED,
+           status = yz_webhook_verify_hex(n, a, l, header, 7, b, m, header, 9));
+    if (n != YZ_SHA256) return;
+    WINDOW("a wrong header of GitHub's", YZ_UNSPECIFIED,
+           status = yz_webhook_verify_github(a, l, b, m, header, len));
+    WINDOW("a wrong header of Stripe's", YZ_UNSPECIFIED,
+           status = yz_webhook_verify_stripe(a, l, b, m, stripe, sizeof stripe - 1, 1492774577, 0));
+}
+
+static void finished(uint32_t n, size_t l, size_t m) {
+    size_t len = yz_output_len(n);
+    WINDOW("a Finished", YZ_OK, status = yz_tls13_finished(n, a, len, b, len, tag, len));
+    WINDOW("a right Finished", YZ_OK,
+           status = yz_tls13_finished_verify(n, a, len, b, len, tag, len));
+    spoil(tag, len);
+    WINDOW("a wrong Finished", YZ_UNSPECIFIED,
+           status = yz_tls13_finished_verify(n, a, len, b, len, tag, len));
+    if (l == 0) return;
+    WINDOW("a binder's key", YZ_OK,
+           status = yz_tls13_binder_key(n, a, l, m % 2 == 0, out, len));
+}
+
 static void derivations(uint32_t n, size_t l, size_t m) {
     size_t len = yz_output_len(n);
     WINDOW("HKDF", YZ_OK, status = yz_hkdf(n, a, l, b, m, a, m, out, 2 * len + 1));
@@ -155,6 +187,8 @@ int main(int count, char **words) {
             if (!IS_KEYED(n)) continue;
             tags(n, LEN[i], other(i));
             tokens(n, LEN[i], other(i));
+            webhooks(n, LEN[i], other(i));
+            finished(n, LEN[i], other(i));
             derivations(n, LEN[i], other(i));
         }
     planted();

@@ -2,3 +2,4 @@
 mod Within
 pub mod Salts
 pub mod Finds
+pub mod Tested

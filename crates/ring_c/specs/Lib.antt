@@ -1,7 +1,6 @@
 -- SPDX-License-Identifier: ISC
 pub mod Number
 pub mod Limits
-pub mod Label
 pub mod Verified
 pub mod Status
 pub mod PasswordHashes
@@ -9,4 +8,6 @@ pub mod Gives
 pub mod Merkle
 pub mod Jws
 pub mod Otp
+pub mod Webhook
+pub mod Tls13
 pub mod Version

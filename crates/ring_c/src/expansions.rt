@@ -7,7 +7,6 @@ ghost use Rattle.ring.specs.Algorithm.{output_len};
 ghost use Rattle.ring.specs.Hkdf.{PrkStandsFor, hkdf_digest, okm, prk_algorithm};
 ghost use Rattle.ring.specs.Hmac.{hmac_of};
 ghost use Rattle.ring.specs.Limits.{IsOutputWithin, can_expand, fits, max_okm_len};
-ghost use Rattle.ring.specs.Pieces.{joined};
 ghost use Rattle.ring.specs.declared.hkdf.algorithm.Algorithm.{Algorithm};
 ghost use Rattle.ring_c.specs.Limits.{can_make, can_sign};
 ghost use Rattle.ring_c.specs.Number.{hkdf_named};
@@ -86,7 +85,7 @@ pub extern "C" fn yz_hkdf_expand(algorithm: u32, prk: &[u8], info: &[u8], out: &
     let Ok(prk) = Prk::new_less_safe(algorithm, prk) else {
         return UNSPECIFIED;
     };
-    fill(&prk, &[info], out)
+    fill(&prk, info, out)
 }
 
 /// Fills `out` with the output for `info` of the PRK that is extracted from `secret` with `salt`,
@@ -125,21 +124,22 @@ pub extern "C" fn yz_hkdf(
     let Ok(prk) = salt.extract(secret) else {
         return UNSPECIFIED;
     };
-    fill(&prk, &[info], out)
+    fill(&prk, info, out)
 }
 
 // Fills `out` with the PRK's output for `info`.
-pub(crate) fn fill(prk: &Prk, info: &[&[u8]], out: &mut [u8]) -> i32
+fn fill(prk: &Prk, info: &[u8], out: &mut [u8]) -> i32
     requires { IsOutputWithin (prk_algorithm prk.now) (length out.old) }
     ensures ok { (k : List ℕ) → PrkStandsFor prk.now k → result ≡ YZ_OK
-        → out.new ≡ okm (prk_algorithm prk.now) k (joined info.now) (length out.old) }
+        → out.new ≡ okm (prk_algorithm prk.now) k info.now (length out.old) }
     ensures status { result ≡ first_of record no_cause {
       unspecified = not (can_expand (prk_algorithm prk.now)
-          (length (joined info.now)) (length out.old));
+          (length info.now) (length out.old));
     } }
     ensures unchanged { result ≢ YZ_OK → out.new ≡ out.old }
 {
-    let Ok(output) = prk.expand(info, Length(out.len())) else {
+    let info = [info];
+    let Ok(output) = prk.expand(&info, Length(out.len())) else {
         // The length was tested.
         unreachable!()
     };

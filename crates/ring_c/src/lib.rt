@@ -26,4 +26,6 @@ mod otp;
 mod password_hashes;
 mod status;
 mod tags;
+mod tls13;
 mod version;
+mod webhooks;

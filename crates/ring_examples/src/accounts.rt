@@ -1,11 +1,14 @@
 // SPDX-License-Identifier: ISC
 //! The accounts of a service: registering, asking for more iterations, and lists of calls.
 
-ghost use Rattle.std.specs.Prelude.{◌≡◌, ◌↔◌, ◌⊎◌, [], ◌∷◌, Ok, true, false};
-ghost use Rattle.std.specs.Prelude.{IfOk, IsErrOf, IsTrue, OnErr};
+ghost use Rattle.std.specs.Prelude.{◌≡◌, ◌↔◌, ◌⊎◌, ◌<◌, [], ◌∷◌, Ok, Err, true, false, length};
+ghost use Rattle.std.specs.Prelude.{IfErr, IfOk, IsErrOf, IsTrue, OnErr};
+ghost use Rattle.ring.specs.Limits.{tag_input_len};
+ghost use Rattle.ring.specs.Prelude.{max_input_len};
+ghost use Rattle.ring.specs.declared.digest.algorithm.TheConstants.{SHA256};
 ghost use Rattle.ring_store.specs.Command.{IsRun};
-ghost use Rattle.ring_store.specs.Store.{knows, new_store, with_password};
-ghost use Rattle.ring_store.specs.Token.{checked, token_key};
+ghost use Rattle.ring_store.specs.Store.{admission, knows, new_store, with_password};
+ghost use Rattle.ring_store.specs.Token.{checked, token_input_len, token_key};
 ghost use Rattle.ring_store.specs.declared.command.Command.TheVariants as command;
 
 use ring_store::{Command, PasswordStore, Reply, StoreError, TokenError, TokenMaker};
@@ -20,8 +23,10 @@ pub fn store_of_one<A: Allocator + Copy>(
     name: &[u8],
     password: &[u8],
 ) -> Result<PasswordStore<A>, StoreError>
-    ensures { IfOk result (λ store. store
-        ≡ with_password (new_store db_salt iterations) name.now password.now) }
+    ensures ok { IfOk result (λ store. (admission name.now password.now ≡ Ok tt)
+        × (store ≡ with_password (new_store db_salt iterations) name.now password.now)) }
+    ensures refused { IfErr result (λ error. (admission name.now password.now ≡ Err error)
+        ⊎ ((error ≡ StoreError.Memory) × (admission name.now password.now ≡ Ok tt))) }
 {
     let mut store = PasswordStore::new_in(alloc, db_salt, iterations);
     store.set_password(name, password)?;
@@ -42,7 +47,10 @@ pub fn register(store: &mut PasswordStore, name: &[u8], password: &[u8]) -> Resu
     ensures known { knows store.old name.now ≡ true
         → (result ≡ Ok false) × (store.new ≡ store.old) }
     ensures ok { knows store.old name.now ≡ false → IfOk result (λ is_new. (is_new ≡ true)
+        × (admission name.now password.now ≡ Ok tt)
         × (store.new ≡ with_password store.old name.now password.now)) }
+    ensures refused { IfErr result (λ error. (admission name.now password.now ≡ Err error)
+        ⊎ ((error ≡ StoreError.Memory) × (admission name.now password.now ≡ Ok tt))) }
     ensures unchanged { OnErr result (store.new ≡ store.old) }
 {
     if is_registered(store, name) {
@@ -82,8 +90,11 @@ pub fn passes(
     now: u64,
     token: &[u8],
 ) -> Result<(), TokenError>
-    ensures { IsErrOf result TokenError.TooLong ⊎ (result
+    ensures ok { IsErrOf result TokenError.TooLong ⊎ (result
         ≡ checked (token_key master.now salt.now) user.now expiry now token.now) }
+    ensures too_long { IsErrOf result TokenError.TooLong ↔ ((max_input_len SHA256 < length salt.now)
+        ⊎ (max_input_len SHA256 < tag_input_len SHA256 (length master.now))
+        ⊎ (max_input_len SHA256 < token_input_len (length user.now))) }
 {
     TokenMaker::new(master, salt)?.check(user, expiry, now, token)
 }

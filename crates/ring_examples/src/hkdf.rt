@@ -87,6 +87,8 @@ pub fn next_key(current: &Prk, info: &[&[u8]]) -> Result<Prk, Unspecified>
     ensures ok { (k : List ℕ) → PrkStandsFor current.now k → IfOk result (λ next.
         PrkStandsFor next (okm (prk_algorithm current.now) k (joined info.now) 32)) }
     ensures algorithm { IfOk result (λ next. prk_algorithm next ≡ SHA256) }
+    ensures refused { IsOk result
+        ↔ IsInfoWithin (prk_algorithm current.now) (length (joined info.now)) 32 }
 {
     Prk::try_from(current.expand(info, HKDF_SHA256)?)
 }
@@ -96,6 +98,9 @@ pub fn next_key(current: &Prk, info: &[&[u8]]) -> Result<Prk, Unspecified>
 pub fn next_salt(current: &Prk, info: &[&[u8]]) -> Result<Salt, Unspecified>
     ensures ok { (k : List ℕ) → PrkStandsFor current.now k → IfOk result (λ salt.
         SaltStandsFor salt (okm (prk_algorithm current.now) k (joined info.now) 32)) }
+    ensures algorithm { IfOk result (λ salt. salt_algorithm salt ≡ SHA256) }
+    ensures refused { IsOk result
+        ↔ IsInfoWithin (prk_algorithm current.now) (length (joined info.now)) 32 }
 {
     Salt::try_from(current.expand(info, HKDF_SHA256)?)
 }
@@ -107,6 +112,9 @@ pub fn key_under_salt(salt: &Salt, secret: &[u8], info: &[&[u8]]) -> Result<Key,
         (hmac_of (salt_algorithm salt.now) s secret.now) (joined info.now)
         (output_len (salt_algorithm salt.now)))) }
     ensures algorithm { IfOk result (λ key. key_algorithm key ≡ salt_algorithm salt.now) }
+    ensures refused { IsOk result ↔ (IsTagWithin (salt_algorithm salt.now) (length secret.now)
+        × IsInfoWithin (salt_algorithm salt.now) (length (joined info.now))
+        (output_len (salt_algorithm salt.now))) }
 {
     let prk = salt.extract(secret)?;
     let asked = prk.expand(info, salt.algorithm().hmac_algorithm())?;
@@ -118,6 +126,9 @@ pub fn current_and_next(current: &Prk, info: &[&[u8]]) -> Result<(Prk, Prk), Uns
     ensures current { IfOk result (λ both. both.0 ≡ current.now) }
     ensures next { (k : List ℕ) → PrkStandsFor current.now k → IfOk result (λ both.
         PrkStandsFor both.1 (okm (prk_algorithm current.now) k (joined info.now) 32)) }
+    ensures algorithm { IfOk result (λ both. prk_algorithm both.1 ≡ SHA256) }
+    ensures refused { IsOk result
+        ↔ IsInfoWithin (prk_algorithm current.now) (length (joined info.now)) 32 }
 {
     let next = next_key(current, info)?;
     Ok((current.clone(), next))

@@ -66,6 +66,8 @@ pub fn tags_of_front_and_whole(
         → IfOk result (λ tags. IsTag tags.0 (key_algorithm key.now) k front.now) }
     ensures whole { (k : List ℕ) → KeyStandsFor key.now k
         → IfOk result (λ tags. IsTag tags.1 (key_algorithm key.now) k (front.now ++ rest.now)) }
+    ensures refused { IsErr result ↔ (max_input_len (key_algorithm key.now)
+        < block_len (key_algorithm key.now) + length (front.now ++ rest.now)) }
 {
     let mut context = Context::with_key(key);
     context.update(front);

@@ -4,9 +4,9 @@
 ghost use Rattle.std.specs.Prelude.{◌≡◌, ◌↔◌, ◌+◌, ◌<◌, ◌≤◌, ℕ, List, length, replicate, take};
 ghost use Rattle.std.specs.Prelude.{IfOk, IsErr, IsOk, IsTrue};
 ghost use Rattle.std.specs.Int.NonZero.{non_zero_u32_get};
-ghost use Rattle.ring.specs.Prelude.{CanDerive, IsOutputWithin, PrkStandsFor, compared_pairs};
-ghost use Rattle.ring.specs.Prelude.{digest_of, dk, hmac_of, joined, max_input_len, okm};
-ghost use Rattle.ring.specs.Prelude.{prk_algorithm};
+ghost use Rattle.ring.specs.Prelude.{CanDerive, IsInfoWithin, IsOutputWithin, PrkStandsFor};
+ghost use Rattle.ring.specs.Prelude.{compared_pairs, digest_of, dk, hmac_of, joined};
+ghost use Rattle.ring.specs.Prelude.{max_input_len, okm, prk_algorithm};
 
 use crate::basics::pairs_of_comparison;
 use crate::hkdf::Length;
@@ -57,6 +57,8 @@ pub fn long_and_short_output(prk: &Prk, info: &[&[u8]]) -> Result<([u8; 64], [u8
         both.0 ≡ okm (prk_algorithm prk.now) k (joined info.now) 64) }
     ensures front { (k : List ℕ) → PrkStandsFor prk.now k
         → IfOk result (λ both. both.1 ≡ take 32 both.0) }
+    ensures refused { IsOk result
+        ↔ IsInfoWithin (prk_algorithm prk.now) (length (joined info.now)) 64 }
 {
     shorter_output_is_a_front();
     let mut long = [0; 64];

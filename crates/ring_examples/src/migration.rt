@@ -2,11 +2,11 @@
 //! A database of another system moves, each password at its next login: into a store, or to texts
 //! of another scheme or count.
 
-ghost use Rattle.std.specs.Prelude.{◌≡◌, ◌↔◌, ◌≤◌, Ok, Err, None, Some, IfErr, IfOk, IfSome};
-ghost use Rattle.std.specs.Prelude.{IsErrOf, IsOk, IsTrue, OnErr, OnOk, take};
+ghost use Rattle.std.specs.Prelude.{◌≡◌, ◌↔◌, ◌⊎◌, ◌≤◌, Ok, Err, None, Some, IfErr, IfOk, IfSome};
+ghost use Rattle.std.specs.Prelude.{IsErrOf, IsOk, IsTrue, OnErr, OnOk, drop, take};
 ghost use Rattle.std.specs.Int.NonZero.{non_zero_u32_get};
 ghost use Rattle.ring_password_hash.specs.Stored.{IsReadWhere, IsTextOf, Parts, answer_of};
-ghost use Rattle.ring_password_hash.specs.Stored.{new_parts, parts_of};
+ghost use Rattle.ring_password_hash.specs.Stored.{new_parts, new_status, parts_of};
 ghost use Rattle.ring_password_hash.specs.declared.error.HashError.{HashError};
 ghost use Rattle.ring_store.specs.Store.{admission, with_password};
 ghost use Rattle.ring_examples.specs.declared.migration.MoveError.TheVariants.{Store, Text};
@@ -56,6 +56,7 @@ pub fn move_at_login(
 ) -> Result<(), MoveError>
     ensures ok { IsOk result → IsReadWhere text.now (λ found.
         answer_of found password.now max_iterations ≡ Ok tt) }
+    ensures admitted { IsOk result → admission name.now password.now ≡ Ok tt }
     ensures moved { OnOk result (store.new ≡ with_password store.old name.now password.now) }
     ensures right { (h : Parts) → IsTextOf h text.now
         → answer_of (Some h) password.now max_iterations ≡ Ok tt
@@ -63,6 +64,10 @@ pub fn move_at_login(
         → IfErr result (λ error. error ≡ Store StoreError.Memory) }
     ensures refused { (error : HashError) → IsErrOf result (Text error)
         → IsReadWhere text.now (λ found. answer_of found password.now max_iterations ≡ Err error) }
+    ensures not_kept { (error : StoreError) → IsErrOf result (Store error)
+        → IsReadWhere text.now (λ found. answer_of found password.now max_iterations ≡ Ok tt)
+        × ((admission name.now password.now ≡ Err error)
+        ⊎ ((error ≡ StoreError.Memory) × (admission name.now password.now ≡ Ok tt))) }
     ensures unchanged { OnErr result (store.new ≡ store.old) }
 {
     one_text_is_of_one_value();
@@ -97,10 +102,20 @@ pub fn rehash_at_login(
     ensures current { IfOk result (λ new. new ≡ None → IsReadWhere text.now (λ found.
         IfSome found (λ h. (h.scheme ≡ scheme)
         × (non_zero_u32_get iterations ≤ non_zero_u32_get h.iterations)))) }
+    ensures stays { (h : Parts) → IsTextOf h text.now → h.scheme ≡ scheme
+        → non_zero_u32_get iterations ≤ non_zero_u32_get h.iterations
+        → answer_of (Some h) password.now max_iterations ≡ Ok tt
+        → (result ≡ Ok None) × (row.new ≡ row.old) }
     ensures next { IfOk result (λ new. IfSome new (λ len. IsTextOf
-        (new_parts scheme password.now salt.now iterations) (take len row.new))) }
+        (new_parts scheme password.now salt.now iterations) (take len row.new)
+        × (drop len row.new ≡ drop len row.old))) }
+    ensures refused { IfErr result (λ error. IsReadWhere text.now (λ found.
+        (answer_of found password.now max_iterations ≡ Err error)
+        ⊎ ((answer_of found password.now max_iterations ≡ Ok tt)
+        × (new_status MAX_TEXT_LEN scheme password.now salt.now iterations ≡ Err error)))) }
     ensures unchanged { OnErr result (row.new ≡ row.old) }
 {
+    one_text_is_of_one_value();
     let stored = Stored::parse(text)?;
     stored.verify(password, max_iterations)?;
     if is_current(&stored, scheme, iterations) {

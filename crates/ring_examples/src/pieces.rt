@@ -2,8 +2,8 @@
 //! Digests of messages that are whole, or come in more than two pieces.
 #![tactic(auto, unfolding(ring::specs::Cost::raised))]
 
-ghost use Rattle.std.specs.Prelude.{◌≡◌, ◌↔◌, ◌<◌, ◌++◌, ℕ, List, length, take};
-ghost use Rattle.std.specs.Prelude.{IfOk, IsErr, OnErr, OnOk};
+ghost use Rattle.std.specs.Prelude.{◌≡◌, ◌↔◌, ◌<◌, ◌++◌, ℕ, List, drop, length, take};
+ghost use Rattle.std.specs.Prelude.{IfOk, IsErr, IsOk, OnErr, OnOk};
 ghost use Rattle.ring.specs.Prelude.{IsDigest, StandsFor, block_len, chaining_len};
 ghost use Rattle.ring.specs.Prelude.{context_algorithm, digest_of, joined, max_input_len};
 ghost use Rattle.ring.specs.Prelude.{output_len, padded_blocks};
@@ -77,6 +77,7 @@ pub fn finish_into(context: Context, out: &mut [u8; MAX_OUTPUT_LEN]) -> Result<u
         (take (output_len (context_algorithm context)) out.new
         ≡ digest_of (context_algorithm context) m) }
     ensures len { IfOk result (λ len. len ≡ output_len (context_algorithm context)) }
+    ensures behind { IfOk result (λ len. drop len out.new ≡ drop len out.old) }
     ensures refused { (m : List ℕ) → StandsFor context m
         → IsErr result ↔ (max_input_len (context_algorithm context) < length m) }
     ensures unchanged { OnErr result (out.new ≡ out.old) }
@@ -91,6 +92,7 @@ pub fn finish_into(context: Context, out: &mut [u8; MAX_OUTPUT_LEN]) -> Result<u
 pub fn digest_again(first: &Digest) -> Result<Digest, Unspecified>
     ensures ok { (a : digest.Algorithm) (m : List ℕ) → IsDigest first.now a m
         → IfOk result (λ second. IsDigest second a (digest_of a m)) }
+    ensures refused { IsOk result }
 {
     digest(&first.algorithm(), first.as_ref())
 }

@@ -27,6 +27,7 @@ pub fn tag_under_generated(rng: &mut dyn SecureRandom, message: &[u8]) -> Result
     ensures refused { IsErr result ↔ ((ready rng.old 32 ≡ false)
         ⊎ (max_input_len SHA256 < 64 + length message.now)) }
     ensures taken { OnOk result (left rng.new ≡ drop 32 (left rng.old)) }
+    ensures kept { ready rng.old 32 ≡ false → left rng.new ≡ left rng.old }
 {
     let key = Key::generate(HMAC_SHA256, rng)?;
     sign(&key, message)

@@ -1,12 +1,12 @@
 // SPDX-License-Identifier: ISC
 //! Contexts and keys that are kept as plain numbers between two calls.
 
-ghost use Rattle.std.specs.Prelude.{◌≡◌, ◌↔◌, ℕ, List, ◌++◌, length};
-ghost use Rattle.std.specs.Prelude.{IfOk, IfSome, IsFalse, IsNone, IsOk, IsSomeAnd, IsTrue, None};
-ghost use Rattle.std.specs.Prelude.{Some};
-ghost use Rattle.ring.specs.Prelude.{IsDigest, IsNoContext, IsNoTagContext, IsTag, IsTagWithin};
-ghost use Rattle.ring.specs.Prelude.{KeyStandsFor, RawKeyStandsFor, RawStandsFor, RawTagStandsFor};
-ghost use Rattle.ring.specs.Prelude.{digest_named, hmac_digest, key_algorithm, raw_tag_under};
+ghost use Rattle.std.specs.Prelude.{◌≡◌, ◌↔◌, ◌<◌, ℕ, List, ◌++◌, length, None, Some};
+ghost use Rattle.std.specs.Prelude.{IfOk, IfSome, IsErr, IsFalse, IsNone, IsOk, IsSomeAnd, IsTrue};
+ghost use Rattle.ring.specs.Prelude.{IsDigest, IsNoContext, IsNoKey, IsNoTagContext, IsTag};
+ghost use Rattle.ring.specs.Prelude.{IsTagWithin, KeyStandsFor, RawKeyStandsFor, RawStandsFor};
+ghost use Rattle.ring.specs.Prelude.{RawTagStandsFor, digest_named, hmac_digest, key_algorithm};
+ghost use Rattle.ring.specs.Prelude.{max_input_len, raw_tag_under};
 ghost use Rattle.ring.specs.declared.digest.algorithm.Algorithm as digest;
 
 use ring::digest::{Algorithm, Context, Digest, digest};
@@ -28,6 +28,9 @@ pub fn begin_raw(algorithm: &Algorithm, input: &[u8]) -> RawContext
 pub fn finish_raw(numbers: &RawContext, rest: &[u8]) -> Option<Result<Digest, Unspecified>>
     ensures ok { (a : digest.Algorithm) (m : List ℕ) → RawStandsFor numbers.now a m
         → IsSomeAnd result (λ made. IfOk made (λ digest. IsDigest digest a (m ++ rest.now))) }
+    ensures refused { (a : digest.Algorithm) (m : List ℕ) → RawStandsFor numbers.now a m
+        → IsSomeAnd result (λ made. IsErr made ↔ (max_input_len a < length (m ++ rest.now))) }
+    ensures none { IsNone result ↔ IsNoContext numbers.now }
 {
     let mut context = numbers.context()?;
     context.update(rest);
@@ -39,7 +42,7 @@ pub fn finish_raw(numbers: &RawContext, rest: &[u8]) -> Option<Result<Digest, Un
 pub fn add_raw(numbers: &mut RawContext, input: &[u8]) -> bool
     ensures stands { (a : digest.Algorithm) (m : List ℕ) → RawStandsFor numbers.old a m
         → RawStandsFor numbers.new a (m ++ input.now) }
-    ensures none { IsFalse result → IsNoContext numbers.old }
+    ensures none { IsFalse result ↔ IsNoContext numbers.old }
     ensures unchanged { IsFalse result → numbers.new ≡ numbers.old }
 {
     if numbers.keep(input) {
@@ -57,6 +60,7 @@ pub fn add_raw(numbers: &mut RawContext, input: &[u8]) -> bool
 pub fn raw_key_of(algorithm: hmac::Algorithm, value: &[u8]) -> Result<RawKey, Unspecified>
     ensures ok { IfOk result (λ numbers.
         RawKeyStandsFor numbers (hmac_digest algorithm) value.now) }
+    ensures refused { IsErr result ↔ (max_input_len (hmac_digest algorithm) < length value.now) }
 {
     Ok(RawKey::new(&Key::new(algorithm, value)?))
 }
@@ -65,6 +69,9 @@ pub fn raw_key_of(algorithm: hmac::Algorithm, value: &[u8]) -> Result<RawKey, Un
 pub fn tag_under_raw(numbers: &RawKey, message: &[u8]) -> Option<Result<Tag, Unspecified>>
     ensures ok { (a : digest.Algorithm) (k : List ℕ) → RawKeyStandsFor numbers.now a k
         → IsSomeAnd result (λ made. IfOk made (λ tag. IsTag tag a k message.now)) }
+    ensures refused { (a : digest.Algorithm) (k : List ℕ) → RawKeyStandsFor numbers.now a k
+        → IsSomeAnd result (λ made. IsOk made ↔ IsTagWithin a (length message.now)) }
+    ensures none { IsNone result ↔ IsNoKey numbers.now }
 {
     let key = numbers.key()?;
     Some(sign(&key, message))
@@ -80,6 +87,7 @@ pub fn verify_under_raw(
     ensures any { (a : digest.Algorithm) → digest_named numbers.now.algorithm ≡ Some a
         → IsSomeAnd result (λ verified. IsOk verified ↔ (IsTagWithin a (length message.now)
         × (tag.now ≡ raw_tag_under a numbers.now message.now))) }
+    ensures none { IsNone result ↔ IsNoKey numbers.now }
 {
     let key = numbers.key()?;
     Some(verify(&key, message, tag))
@@ -100,17 +108,17 @@ pub fn begin_raw_tag(key: &Key, input: &[u8]) -> RawTagContext
 pub fn add_raw_tag(numbers: &mut RawTagContext, input: &[u8]) -> bool
     ensures stands { (a : digest.Algorithm) (k m : List ℕ) → RawTagStandsFor numbers.old a k m
         → RawTagStandsFor numbers.new a k (m ++ input.now) }
-    ensures none { IsFalse result → IsNoTagContext numbers.old }
+    ensures none { IsFalse result ↔ IsNoTagContext numbers.old }
     ensures unchanged { IsFalse result → numbers.new ≡ numbers.old }
 {
     if numbers.keep(input) {
         return true;
     }
-    let Some(mut context) = numbers.context() else {
+    let Some(mut tag_context) = numbers.context() else {
         return false;
     };
-    context.update(input);
-    *numbers = RawTagContext::new(&context);
+    tag_context.update(input);
+    *numbers = RawTagContext::new(&tag_context);
     true
 }
 
@@ -118,6 +126,8 @@ pub fn add_raw_tag(numbers: &mut RawTagContext, input: &[u8]) -> bool
 pub fn finish_raw_tag(numbers: &RawTagContext) -> Option<Result<Tag, Unspecified>>
     ensures ok { (a : digest.Algorithm) (k m : List ℕ) → RawTagStandsFor numbers.now a k m
         → IsSomeAnd result (λ made. IfOk made (λ tag. IsTag tag a k m)) }
+    ensures refused { (a : digest.Algorithm) (k m : List ℕ) → RawTagStandsFor numbers.now a k m
+        → IsSomeAnd result (λ made. IsOk made ↔ IsTagWithin a (length m)) }
     ensures none { IsNone result ↔ IsNoTagContext numbers.now }
 {
     let context = numbers.context()?;
@@ -128,6 +138,8 @@ pub fn finish_raw_tag(numbers: &RawTagContext) -> Option<Result<Tag, Unspecified
 pub fn digest_by_number(number: u32, message: &[u8]) -> Option<Result<Digest, Unspecified>>
     ensures ok { (a : digest.Algorithm) → digest_named number ≡ Some a
         → IsSomeAnd result (λ made. IfOk made (λ digest. IsDigest digest a message.now)) }
+    ensures refused { (a : digest.Algorithm) → digest_named number ≡ Some a
+        → IsSomeAnd result (λ made. IsErr made ↔ (max_input_len a < length message.now)) }
     ensures none { IsNone result ↔ (digest_named number ≡ None) }
 {
     let algorithm = digest_of_number(number)?;

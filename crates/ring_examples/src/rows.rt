@@ -2,13 +2,12 @@
 //! What is kept of a password, in a row of fixed size, as a table in flash has it: made, written
 //! and read back with no memory.
 
-ghost use Rattle.std.specs.Prelude.{◌≡◌, ◌↔◌, ◌≤◌, ℕ, false, Ok, IfOk, IsErrOf, IsOk, OnErr, drop};
-ghost use Rattle.std.specs.Prelude.{take};
+ghost use Rattle.std.specs.Prelude.{◌≡◌, ◌↔◌, ◌≤◌, ◌++◌, ℕ, true, false, Err, Ok, IfErr, IfOk};
+ghost use Rattle.std.specs.Prelude.{IsErrOf, IsOk, OnErr, drop, length, take};
 ghost use Rattle.std.specs.Int.NonZero.{non_zero_u32_get};
-ghost use Rattle.ring_password_hash.specs.Salt.{salt_from};
-ghost use Rattle.ring_password_hash.specs.Scheme.{salt_encoding_of};
 ghost use Rattle.ring_password_hash.specs.Stored.{IsReadWhere, IsStored, IsTextOf, answer_of};
-ghost use Rattle.ring_password_hash.specs.Stored.{is_text, new_parts, parts_of};
+ghost use Rattle.ring_password_hash.specs.Stored.{new_parts, new_status, parts_of, text_of};
+ghost use Rattle.ring_examples.specs.Rows.{salt_of};
 ghost use Rattle.ring_examples.specs.declared.rows.RowError.TheVariants.{NotReady, Refused};
 
 use ring::error::Unspecified;
@@ -33,6 +32,8 @@ pub fn fill_row(
     ensures right { (most : ℕ) → non_zero_u32_get iterations ≤ most
         → IfOk result (λ len. IsReadWhere (take len row.new) (λ found.
         answer_of found password.now most ≡ Ok tt)) }
+    ensures refused { IfErr result (λ error.
+        new_status MAX_TEXT_LEN scheme password.now salt.now iterations ≡ Err error) }
     ensures unchanged { OnErr result (row.new ≡ row.old) }
 {
     new_value_is_the_passwords();
@@ -45,6 +46,8 @@ pub fn fill_row(
 pub fn write_and_read(stored: &Stored, row: &mut [u8; MAX_TEXT_LEN]) -> Result<Stored, HashError>
     requires { IsStored stored.now }
     ensures ok { IfOk result (λ read. parts_of read ≡ parts_of stored.now) }
+    ensures written { row.new ≡ text_of (parts_of stored.now)
+        ++ drop (length (text_of (parts_of stored.now))) row.old }
     ensures refused { IsOk result }
 {
     written_text_is_read_back();
@@ -80,6 +83,9 @@ impl From<HashError> for RowError {
 
 /// Writes what `scheme` keeps of `password` to the start of `text`, under a salt of the source's
 /// next 16 bytes, which every scheme can write.
+///
+/// Refused as `NotReady` exactly if the source is not ready for so many, and else as [`fill_row`]
+/// is. A source that is not ready keeps all of its bytes.
 pub fn new_text(
     scheme: Scheme,
     password: &[u8],
@@ -87,11 +93,21 @@ pub fn new_text(
     rng: &mut dyn SecureRandom,
     text: &mut [u8; MAX_TEXT_LEN],
 ) -> Result<usize, RowError>
+    ensures ok { IfOk result (λ len. IsTextOf (new_parts scheme password.now
+        (salt_of scheme (take RANDOM_LEN (left rng.old))) iterations) (take len text.new)
+        × (drop len text.new ≡ drop len text.old)) }
     ensures right { (most : ℕ) → non_zero_u32_get iterations ≤ most
         → IfOk result (λ len. IsReadWhere (take len text.new) (λ found.
         answer_of found password.now most ≡ Ok tt)) }
     ensures salted { ¬ (IsErrOf result (Refused HashError.BadSalt)) }
     ensures unready { IsErrOf result NotReady ↔ (ready rng.old RANDOM_LEN ≡ false) }
+    ensures refused { (error : HashError) → IsErrOf result (Refused error)
+        → new_status MAX_TEXT_LEN scheme password.now
+        (salt_of scheme (take RANDOM_LEN (left rng.old))) iterations ≡ Err error }
+    ensures unchanged { OnErr result (text.new ≡ text.old) }
+    ensures taken { ready rng.old RANDOM_LEN ≡ true
+        → left rng.new ≡ drop RANDOM_LEN (left rng.old) }
+    ensures kept { ready rng.old RANDOM_LEN ≡ false → left rng.new ≡ left rng.old }
 {
     new_value_is_the_passwords();
     let salt = new_salt(scheme, rng)?;
@@ -108,8 +124,12 @@ pub fn fill_row_under(
     iterations: NonZeroU32,
     row: &mut [u8; MAX_TEXT_LEN],
 ) -> Result<usize, HashError>
-    ensures { IfOk result (λ len. IsTextOf (new_parts scheme password.now
-        (salt_from (is_text (salt_encoding_of scheme)) random) iterations) (take len row.new)) }
+    ensures ok { IfOk result (λ len. IsTextOf (new_parts scheme password.now
+        (salt_of scheme random) iterations) (take len row.new)
+        × (drop len row.new ≡ drop len row.old)) }
+    ensures refused { IfErr result (λ error. new_status MAX_TEXT_LEN scheme password.now
+        (salt_of scheme random) iterations ≡ Err error) }
+    ensures unchanged { OnErr result (row.new ≡ row.old) }
 {
     let salt = Salt::of(scheme, random);
     fill_row(scheme, password, salt.as_ref(), iterations, row)

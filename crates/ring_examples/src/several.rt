@@ -1,11 +1,11 @@
 // SPDX-License-Identifier: ISC
 //! Digests of several messages, whole and in pieces, and keys from several passwords, at once.
 
-ghost use Rattle.std.specs.Prelude.{◌≡◌, ◌↔◌, ◌++◌, IfOk, IsOk, length};
+ghost use Rattle.std.specs.Prelude.{◌≡◌, ◌↔◌, ◌≤◌, ◌++◌, IfOk, IsOk, length};
 ghost use Rattle.std.specs.Int.NonZero.{non_zero_u32_get};
 ghost use Rattle.ring.specs.Prelude.{AreDerived, AreDigests, AreUpdated, AreVerified, CanDerive};
 ghost use Rattle.ring.specs.Prelude.{CanDeriveEach, CanDigestEach, CanVerifyEach, IsDigest, dk};
-ghost use Rattle.ring.specs.Prelude.{message_at};
+ghost use Rattle.ring.specs.Prelude.{max_input_len, message_at};
 
 use ring::cost::Meter;
 use ring::digest::{
@@ -33,6 +33,8 @@ pub fn digests_of_four(
 pub fn digests_of_both(first: &[u8], second: &[u8]) -> Result<(Digest, Digest), Unspecified>
     ensures first { IfOk result (λ digests. IsDigest digests.0 SHA256 first.now) }
     ensures second { IfOk result (λ digests. IsDigest digests.1 SHA256 second.now) }
+    ensures refused { IsOk result ↔ ((length first.now ≤ max_input_len SHA256)
+        × (length second.now ≤ max_input_len SHA256)) }
 {
     let mut digests = [digest(&SHA256, &[])?; 2];
     digest_each_counted(&SHA256, &[first, second], &mut digests, &mut Meter::new())?;

@@ -2,7 +2,7 @@
 //! A password store: a first use, a login, a restart, and the cost of a check.
 #![tactic(auto, using(ring_store_text::proofs::Stores::same_store))]
 
-ghost use Rattle.std.specs.Prelude.{◌≡◌, ◌↔◌, ℕ, List, Ok, Err};
+ghost use Rattle.std.specs.Prelude.{◌≡◌, ◌≢◌, ◌↔◌, ℕ, List, Ok, Err};
 ghost use Rattle.std.specs.Prelude.{IfOk, IsErrOf, IsOkUnless, IsTrue, OnErr, OnOk};
 ghost use Rattle.ring.specs.Prelude.{raised};
 ghost use Rattle.ring_store.specs.Store.{admission, verdict, verify_blocks, with_raise};
@@ -65,6 +65,7 @@ pub fn check_in_request(
     ensures ok { IsTrue result ↔ (verdict store.now name.now password.now ≡ Ok tt) }
     ensures cost { admission name.now password.now ≡ Ok tt → meter.new
         ≡ raised meter.old (verify_blocks store.now name.now password.now) CREDENTIAL_LEN }
+    ensures cost_untested { admission name.now password.now ≢ Ok tt → meter.new ≡ meter.old }
 {
     store.check_password_counted(name, password, meter).is_ok()
 }

@@ -1,7 +1,8 @@
 // SPDX-License-Identifier: ISC
 //! Checksums: of bytes in memory, and as lines of a list that `./sums --check` reads.
 
-ghost use Rattle.std.specs.Prelude.{◌≡◌, ◌∷◌, [], Some, codes, false, IfOk, IfSome};
+ghost use Rattle.std.specs.Prelude.{◌≡◌, ◌∷◌, ◌++◌, [], Some, codes, false, IfOk, IsSomeAnd};
+ghost use Rattle.hex.specs.Hex.{encode_lower};
 ghost use Rattle.ring.specs.Prelude.{bytes_of, digest_algorithm};
 ghost use Rattle.ring_sums.specs.Entry.{ReadsAs};
 ghost use Rattle.ring_sums.specs.List.{LinesSay, lines_in, lists};
@@ -19,7 +20,7 @@ use std::io;
 
 /// The outcome of bytes in memory: their digest, or that they are too long. No read of them fails.
 pub fn outcome_of_bytes(alloc: Global, bytes: &'static [u8]) -> io::Result<Option<Outcome>>
-    ensures { IfOk result (λ given. IfSome given (IsOutcomeOfBytes SHA256 bytes.now)) }
+    ensures { IfOk result (λ given. IsSomeAnd given (IsOutcomeOfBytes SHA256 bytes.now)) }
 {
     bytes_in_memory_do_not_fail();
     let mut sums = Sums::new(alloc, &SHA256, vec![in alloc; bytes]?);
@@ -30,7 +31,9 @@ pub fn outcome_of_bytes(alloc: Global, bytes: &'static [u8]) -> io::Result<Optio
 /// and its name back.
 pub fn plain_line(alloc: Global, digest: &Digest) -> Result<Vec<u8>, AllocError>
     requires { digest_algorithm digest.now ≡ SHA256 }
-    ensures { IfOk result (λ line. ReadsAs (Some SHA256) Unknown line.items (record {
+    ensures written { IfOk result (λ line.
+        line.items ≡ encode_lower (bytes_of digest.now) ++ codes "  image.bin") }
+    ensures read { IfOk result (λ line. ReadsAs (Some SHA256) Unknown line.items (record {
       algorithm = SHA256;
       digest = bytes_of digest.now;
       name = codes "image.bin";
@@ -47,7 +50,9 @@ pub fn plain_line(alloc: Global, digest: &Digest) -> Result<Vec<u8>, AllocError>
 /// The same line in BSD's style.
 pub fn tagged_line(alloc: Global, digest: &Digest) -> Result<Vec<u8>, AllocError>
     requires { digest_algorithm digest.now ≡ SHA256 }
-    ensures { IfOk result (λ line. ReadsAs (Some SHA256) Unknown line.items (record {
+    ensures written { IfOk result (λ line.
+        line.items ≡ codes "SHA256 (image.bin) = " ++ encode_lower (bytes_of digest.now)) }
+    ensures read { IfOk result (λ line. ReadsAs (Some SHA256) Unknown line.items (record {
       algorithm = SHA256;
       digest = bytes_of digest.now;
       name = codes "image.bin";
@@ -64,7 +69,9 @@ pub fn tagged_line(alloc: Global, digest: &Digest) -> Result<Vec<u8>, AllocError
 /// A list of one image: a check reads its digest and its name, and nothing else.
 pub fn list_of_image(alloc: Global, digest: &Digest) -> Result<Vec<u8>, AllocError>
     requires { digest_algorithm digest.now ≡ SHA256 }
-    ensures { IfOk result (λ text. (after : Gap) × LinesSay (Some SHA256) false 1 Unknown
+    ensures written { IfOk result (λ text.
+        text.items ≡ encode_lower (bytes_of digest.now) ++ codes "  image.bin\n") }
+    ensures read { IfOk result (λ text. (after : Gap) × LinesSay (Some SHA256) false 1 Unknown
         (lines_in text.items) (lists (record {
           algorithm = SHA256;
           digest = bytes_of digest.now;

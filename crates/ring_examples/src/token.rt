@@ -2,11 +2,13 @@
 //! Tokens: two makers during a change of keys, and what a token costs.
 #![tactic(auto, unfolding(ring::specs::Cost::raised))]
 
-ghost use Rattle.std.specs.Prelude.{◌≡◌, ◌↔◌, ◌⊎◌, ℕ, ◌≤◌, List, length, Ok, IfOk, IsOk};
+ghost use Rattle.std.specs.Prelude.{◌≡◌, ◌≢◌, ◌↔◌, ◌⊎◌, ℕ, ◌<◌, ◌≤◌, List, length, Ok, Err};
+ghost use Rattle.std.specs.Prelude.{IfOk, IsErr, IsOk, IsOkUnless, IsTrue};
 ghost use Rattle.ring.specs.Algorithm.{max_input_len};
 ghost use Rattle.ring.specs.Cost.{raised};
 ghost use Rattle.ring.specs.declared.digest.algorithm.TheConstants.{SHA256};
 ghost use Rattle.ring_store.specs.Token.{MakerStandsFor, checked, token_blocks, token_input_len};
+ghost use Rattle.ring_store.specs.Token.{token_of};
 
 use ring::cost::Meter;
 use ring_store::{TOKEN_LEN, TokenError, TokenMaker};
@@ -23,6 +25,12 @@ pub fn check_under_both(
     ensures ok { (k l : List ℕ) → MakerStandsFor new.now k → MakerStandsFor old.now l
         → IsOk result ↔ ((checked k user.now expiry now token.now ≡ Ok tt)
         ⊎ (checked l user.now expiry now token.now ≡ Ok tt)) }
+    ensures by_new { (k : List ℕ) → MakerStandsFor new.now k
+        → checked k user.now expiry now token.now ≢ Err TokenError.BadToken
+        → result ≡ checked k user.now expiry now token.now }
+    ensures by_old { (k l : List ℕ) → MakerStandsFor new.now k → MakerStandsFor old.now l
+        → checked k user.now expiry now token.now ≡ Err TokenError.BadToken
+        → result ≡ checked l user.now expiry now token.now }
 {
     match new.check(user, expiry, now, token) {
         Err(TokenError::BadToken) => old.check(user, expiry, now, token),
@@ -36,7 +44,11 @@ pub fn token_and_blocks(
     user: &[u8],
     expiry: u64,
 ) -> Result<([u8; TOKEN_LEN], u128), TokenError>
-    ensures { IfOk result (λ made. made.1 ≡ token_blocks (length user.now)) }
+    ensures ok { (k : List ℕ) → MakerStandsFor maker.now k
+        → IfOk result (λ made. made.0 ≡ token_of k user.now expiry) }
+    ensures refused { IsErr result ↔ (max_input_len SHA256 < token_input_len (length user.now)) }
+    ensures too_long { IsOkUnless result TokenError.TooLong }
+    ensures cost { IfOk result (λ made. made.1 ≡ token_blocks (length user.now)) }
 {
     let mut meter = Meter::new();
     let token = maker.issue_counted(user, expiry, &mut meter)?;
@@ -53,8 +65,12 @@ pub fn check_in_request(
     token: &[u8; TOKEN_LEN],
     meter: &mut Meter,
 ) -> bool
+    ensures ok { (k : List ℕ) → MakerStandsFor maker.now k
+        → IsTrue result ↔ (checked k user.now expiry now token.now ≡ Ok tt) }
     ensures cost { token_input_len (length user.now) ≤ max_input_len SHA256 → meter.new
         ≡ raised meter.old (token_blocks (length user.now)) TOKEN_LEN }
+    ensures unchanged { max_input_len SHA256 < token_input_len (length user.now)
+        → meter.new ≡ meter.old }
 {
     maker.check_counted(user, expiry, now, token, meter).is_ok()
 }

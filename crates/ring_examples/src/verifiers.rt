@@ -1,7 +1,8 @@
 // SPDX-License-Identifier: ISC
 //! A role logs in by what PostgreSQL keeps of its password, and what that shares with other hashes.
 
-ghost use Rattle.std.specs.Prelude.{◌≡◌, ◌↔◌, ◌<◌, ◌++◌, ℕ, List, Ok, Some, IfOk, IsOk, IsTrue};
+ghost use Rattle.std.specs.Prelude.{◌≡◌, ◌≢◌, ◌↔◌, ◌<◌, ◌++◌, ℕ, List, Err, Ok, Some};
+ghost use Rattle.std.specs.Prelude.{IfOk, IsErrOf, IsOk, IsSomeAnd, IsTrue};
 ghost use Rattle.std.specs.Int.NonZero.{non_zero_u32_get};
 ghost use Rattle.std.specs.Str.{IsAscii};
 ghost use Rattle.ring.specs.Prelude.{tag_bytes};
@@ -9,7 +10,9 @@ ghost use Rattle.ring_password_hash.specs.Stored.{IsReadWhere, IsTextOf, Parts, 
 ghost use Rattle.ring_password_hash.specs.Stored.{derived_of, meter_of, stored_key_of};
 ghost use Rattle.ring_password_hash.specs.declared.scheme.Scheme.TheVariants.{DjangoSha256};
 ghost use Rattle.ring_password_hash.specs.declared.scheme.Scheme.TheVariants.{Postgresql};
+ghost use Rattle.ring_examples.specs.declared.verifiers.LoginError.TheVariants.{OtherScheme};
 ghost use Rattle.ring_examples.specs.declared.verifiers.LoginError.TheVariants.{Refused};
+ghost use Rattle.ring_examples.specs.declared.verifiers.LoginError.TheVariants.{Unprepared};
 
 use ring::cost::Meter;
 use ring::error::Unspecified;
@@ -43,6 +46,13 @@ pub fn log_in(text: &[u8], password: &[u8], max_iterations: u32) -> Result<(), L
     ensures right { (h : Parts) → IsTextOf h text.now → h.scheme ≡ Postgresql
         → answer_of (Some h) password.now max_iterations ≡ Ok tt → IsAscii password.now
         → IsOk result }
+    ensures unprepared { IsErrOf result Unprepared ↔ ¬ (IsAscii password.now) }
+    ensures other { IsErrOf result OtherScheme → IsReadWhere text.now (λ found.
+        IsSomeAnd found (λ h. h.scheme ≢ Postgresql)) }
+    ensures every_other { (h : Parts) → IsTextOf h text.now → h.scheme ≢ Postgresql
+        → IsAscii password.now → IsErrOf result OtherScheme }
+    ensures refused { (error : HashError) → IsErrOf result (Refused error)
+        → IsReadWhere text.now (λ found. answer_of found password.now max_iterations ≡ Err error) }
 {
     one_text_is_of_one_value();
     if needs_preparation(password) {
@@ -72,9 +82,10 @@ pub fn test_in_request(text: &[u8], password: &[u8], max_iterations: u32, meter:
 /// PostgreSQL's ServerKey, made of a hash of 32 bytes by SHA-256 with the same salt and count, as
 /// Django keeps it: whoever has such a hash needs no password.
 pub fn server_key_of_hash(hash: &[u8; 32]) -> Result<Tag, Unspecified>
-    ensures { (p s : List ℕ) (c : ℕ) → hash.now ≡ derived_of DjangoSha256 p s c 32
+    ensures ok { (p s : List ℕ) (c : ℕ) → hash.now ≡ derived_of DjangoSha256 p s c 32
         → IfOk result (λ key. derived_of Postgresql p s c 64
         ≡ stored_key_of hash.now ++ tag_bytes key) }
+    ensures refused { IsOk result }
 {
     salted_password_is_derived();
     let key = Key::new(HMAC_SHA256, hash)?;

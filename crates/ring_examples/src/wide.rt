@@ -1,7 +1,7 @@
 // SPDX-License-Identifier: ISC
 //! Several digests and keys at once, over vectors of 256 bits.
 
-ghost use Rattle.std.specs.Prelude.{◌≡◌, ◌↔◌, ◌*◌, IfOk, IsErr, IsOk, IsTrue, OnOk, length};
+ghost use Rattle.std.specs.Prelude.{◌≡◌, ◌↔◌, ◌*◌, IfOk, IsErr, IsOk, IsTrue, OnErr, OnOk, length};
 ghost use Rattle.std.specs.Int.NonZero.{non_zero_u32_get};
 ghost use Rattle.ring.specs.Prelude.{AreDerived, AreDigests, AreUpdated, AreVerified, CanDerive};
 ghost use Rattle.ring.specs.Prelude.{CanDeriveEach, CanDigestEach, CanVerifyEach, CanWriteEach};
@@ -41,6 +41,7 @@ pub fn has_a_digest_each(count: usize, len: usize) -> bool
 pub fn write_list(files: &[&[u8]], list: &mut [u8]) -> Result<(), Unspecified>
     ensures ok { OnOk result (list.new ≡ digests_of SHA256 files.now) }
     ensures refused { IsOk result ↔ CanWriteEach SHA256 files.now (length list.old) }
+    ensures unchanged { OnErr result (list.new ≡ list.old) }
 {
     digest_each_bytes_in::<AVX2>(&SHA256, files, list, &mut Meter::new())
 }

@@ -10,8 +10,19 @@ use Rattle.ring_sums.specs.List.{CanReadBack, line_of}
 use Rattle.ring_sums.specs.declared.entry.Gap.TheVariants.{Unknown}
 use Rattle.ring_examples.proofs.sums.list_of_image.Goals as goal
 
-pub returns : goal.returns
-returns c =
+pub returns-clause-written : goal.returns-clause-written
+returns-clause-written c =
+    rw (
+      c.in_ok-extend_from_slice-2.ensures.items,
+      c.in_ok-extend_from_slice.ensures.items,
+      c.new-text.ensures.items,
+      c.as_bytes.ensures.value,
+      c.in_ok-encode.ensures,
+      c.as_ref-bytes.ensures.bytes,
+    )
+
+pub returns-clause-read : goal.returns-clause-read
+returns-clause-read c =
     let image : Listed = record {
       algorithm = SHA256;
       digest = bytes_of c.args.digest.now;

@@ -8,11 +8,8 @@ use Rattle.ring_sums.specs.Entry.{IsDigestOf}
 use Rattle.ring_sums.specs.declared.entry.Gap.TheVariants.{Unknown}
 use Rattle.ring_examples.proofs.sums.plain_line.Goals as goal
 
-pub returns : goal.returns
-returns c =
-    let d = bytes_of c.args.digest.now in
-    let line = c.extend_from_slice-2.new.self.items in
-    let whole : line ≡ encode_lower d ++ codes "  image.bin" =
+pub returns-clause-written : goal.returns-clause-written
+returns-clause-written c =
     rw (
       c.in_ok-extend_from_slice-2.ensures.items,
       c.in_ok-extend_from_slice.ensures.items,
@@ -20,7 +17,13 @@ returns c =
       c.as_bytes.ensures.value,
       c.in_ok-encode.ensures,
       c.as_ref-bytes.ensures.bytes,
-    ) in
+    )
+
+pub returns-clause-read : goal.returns-clause-read
+returns-clause-read c =
+    let d = bytes_of c.args.digest.now in
+    let line = c.extend_from_slice-2.new.self.items in
+    let whole : line ≡ encode_lower d ++ codes "  image.bin" = returns-clause-written c in
     let is : IsDigestOf SHA256 d = record {
       bytes = subst IsBytes c.as_ref-bytes.ensures.bytes (search rules);
       len = search rules;

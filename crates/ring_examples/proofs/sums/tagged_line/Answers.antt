@@ -7,8 +7,8 @@ use Rattle.ring_sums.specs.Entry.{IsDigestOf}
 use Rattle.ring_sums.specs.declared.entry.Gap.TheVariants.{Unknown}
 use Rattle.ring_examples.proofs.sums.tagged_line.Goals as goal
 
-pub returns : goal.returns
-returns c =
+pub returns-clause-read : goal.returns-clause-read
+returns-clause-read c =
     let d = bytes_of c.args.digest.now in
     let line = c.extend_from_slice-2.new.self.items in
     let whole : line ≡ codes "SHA256 (image.bin) = " ++ encode_lower d = search rules in

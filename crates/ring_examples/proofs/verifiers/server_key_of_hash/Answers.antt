@@ -5,9 +5,9 @@ use Rattle.ring.specs.declared.digest.algorithm.Algorithm.{Algorithm}
 use Rattle.ring_password_hash.specs.Stored.{keys_of, server_key_of, stored_key_of}
 use Rattle.ring_examples.proofs.verifiers.server_key_of_hash.Goals as goal
 
-pub returns : goal.returns
+pub returns-clause-ok : goal.returns-clause-ok
 unfolding server_key_of
-returns c = λ p s n is.
+returns-clause-ok c = λ p s n is.
     let hash = c.args.hash.now in
     let tag = c.in_ok-tag.ensures.ok hash c.in_ok-key.ensures.ok in
     let key = tag.bytes ∙ ap (λ (a : Algorithm). hmac_of a hash (codes "Server Key"))

@@ -41894,16 +41894,11 @@ L(155_6):
 	sub %rax,%r14
 	jne L(155_16)
 L(155_7):
-	xor %r14d,%r14d
 	xor %ebp,%ebp
-	xor %eax,%eax
-	xor %r10d,%r10d
+	xor %r14d,%r14d
 L(155_8):
 	mov %r9,0x10(%rsp)
 	mov %rdi,0x18(%rsp)
-	test %bpl,%bpl
-	cmovne %rax,%rbx
-	cmovne %r10,%r14
 	pxor %xmm0,%xmm0
 	movdqa %xmm0,0x20(%rsp)
 	movdqa %xmm0,0x30(%rsp)
@@ -41951,19 +41946,19 @@ L(155_10):
 L(155_11):
 	mov $0x1,%al
 	test %r8b,%r8b
-	jne L(155_29)
+	jne L(155_30)
 	pxor %xmm1,%xmm1
 	cmp $0x1,%sil
-	jne L(155_26)
+	jne L(155_27)
 	pextrq $0x1,%xmm0,%r12
 	mov $0x1,%sil
 	xor %r15d,%r15d
 	cmpb $0x0,0x110(%rsp)
-	je L(155_31)
+	je L(155_32)
 	cmp $0x1,%rbp
-	jne L(155_31)
+	jne L(155_32)
 	cmpb $0x2d,(%rbx)
-	jne L(155_30)
+	jne L(155_31)
 	test %r12,%r12
 	je L(155_12)
 	mov %r14,%rdi
@@ -41974,18 +41969,18 @@ L(155_11):
 L(155_12):
 	mov $0x1,%r15d
 	test %r13,%r13
-	je L(155_27)
+	je L(155_28)
 	mov %rbx,%rdi
 	call rattle_dealloc
 	pxor %xmm1,%xmm1
 	mov 0x10(%rsp),%rdx
 	mov 0x18(%rsp),%rdi
-	jmp L(155_27)
+	jmp L(155_28)
 L(155_13):
 	test %r14,%r14
 	mov 0x18(%rsp),%rdi
 	mov 0x10(%rsp),%rdx
-	je L(155_25)
+	je L(155_26)
 	mov %r12d,%eax
 	mov %r15d,%esi
 	xor %ecx,%ecx
@@ -41994,7 +41989,7 @@ L(155_13):
 L(155_14):
 	inc %rcx
 	cmp %rcx,%r14
-	je L(155_25)
+	je L(155_26)
 L(155_15):
 	movzbl (%rbx,%rcx,1),%r8d
 	lea -0x3a(%r8),%r9d
@@ -42005,59 +42000,61 @@ L(155_15):
 	cmp $0xfa,%r8b
 	jae L(155_14)
 	cmp $0x5f,%rcx
-	jg L(155_17)
+	jg L(155_18)
 	cmp $0x28,%rcx
-	je L(155_19)
+	je L(155_20)
 	cmp $0x40,%rcx
-	jne L(155_18)
+	jne L(155_19)
 	mov $0x1,%r8b
-	jmp L(155_21)
+	jmp L(155_22)
 L(155_16):
-	mov %rax,%r10
-	not %r10
-	add %r8,%r10
-	xor %r8d,%r8d
-	cmpb $0x5c,(%rcx,%rax,1)
-	sete %bpl
-	lea 0x1(%rcx,%rax,1),%rax
-	cmovne %r8,%rax
-	cmovne %r8,%r10
+	cmpb $0x5c,(%rbx)
+	jne L(155_17)
+	lea (%rcx,%rax,1),%rbx
+	inc %rbx
+	not %rax
+	add %r8,%rax
+	mov $0x1,%bpl
+	mov %rax,%r14
 	jmp L(155_8)
 L(155_17):
-	cmp $0x60,%rcx
-	je L(155_20)
-	cmp $0x80,%rcx
-	jne L(155_18)
-	mov $0x3,%r8b
-	jmp L(155_21)
+	xor %ebp,%ebp
+	jmp L(155_8)
 L(155_18):
-	cmp $0x1,%sil
-	je L(155_22)
-	jmp L(155_25)
+	cmp $0x60,%rcx
+	je L(155_21)
+	cmp $0x80,%rcx
+	jne L(155_19)
+	mov $0x3,%r8b
+	jmp L(155_22)
 L(155_19):
-	xor %r8d,%r8d
-	jmp L(155_21)
+	cmp $0x1,%sil
+	je L(155_23)
+	jmp L(155_26)
 L(155_20):
-	mov $0x2,%r8b
+	xor %r8d,%r8d
+	jmp L(155_22)
 L(155_21):
+	mov $0x2,%r8b
+L(155_22):
 	cmp $0x1,%sil
 	movzbl %al,%esi
 	movzbl %r8b,%eax
 	cmove %esi,%eax
-L(155_22):
+L(155_23):
 	movzbl %al,%esi
 	lea L(switch.table.ring_sums.list.append_line)(%rip),%rax
 	cmp %rcx,(%rax,%rsi,8)
-	jne L(155_25)
+	jne L(155_26)
 	lea 0x2(%rcx),%rax
 	cmp %rax,%r14
-	jb L(155_25)
+	jb L(155_26)
 	movzbl (%rbx,%rcx,1),%eax
 	cmp $0x20,%eax
-	je L(155_23)
+	je L(155_24)
 	cmp $0x9,%eax
-	jne L(155_25)
-L(155_23):
+	jne L(155_26)
+L(155_24):
 	lea (%rbx,%rcx,1),%r8
 	inc %r8
 	mov %rcx,%rax
@@ -42070,14 +42067,14 @@ L(155_23):
 	movdqa %xmm0,0x20(%rsp)
 	movq $0x0,0x60(%rsp)
 	cmp $0x1,%r9
-	jbe L(155_33)
+	jbe L(155_34)
 	movzbl (%r8),%r11d
 	movzbl 0x0(%r13),%r10d
 	cmp $0x20,%r11d
-	je L(155_24)
+	je L(155_25)
 	cmp $0x2a,%r11d
-	jne L(155_34)
-L(155_24):
+	jne L(155_35)
+L(155_25):
 	test %r10b,%r10b
 	movzbl %r10b,%edx
 	mov $0x2,%edi
@@ -42092,12 +42089,12 @@ L(155_24):
 	lea (%rcx,%rdx,1),%r8
 	inc %r8
 	mov %rax,%r9
-	jmp L(155_35)
-L(155_25):
-	pxor %xmm1,%xmm1
+	jmp L(155_36)
 L(155_26):
-	mov $0x1,%r15d
+	pxor %xmm1,%xmm1
 L(155_27):
+	mov $0x1,%r15d
+L(155_28):
 	xor %esi,%esi
 	xor %r14d,%r14d
 	xor %r12d,%r12d
@@ -42106,8 +42103,8 @@ L(155_27):
 	xor %r13d,%r13d
 	mov 0x8(%rdi),%rax
 	cmp %rax,0x10(%rdi)
-	je L(155_32)
-L(155_28):
+	je L(155_33)
+L(155_29):
 	mov (%rdi),%rcx
 	mov %rax,%rsi
 	shl $0x6,%rsi
@@ -42121,7 +42118,7 @@ L(155_28):
 	inc %rax
 	mov %rax,0x8(%rdi)
 	xor %eax,%eax
-L(155_29):
+L(155_30):
 	add $0xd8,%rsp
 	pop %rbx
 	pop %r12
@@ -42130,36 +42127,36 @@ L(155_29):
 	pop %r15
 	pop %rbp
 	ret
-L(155_30):
+L(155_31):
 	mov $0x1,%ebp
 	xor %r15d,%r15d
-L(155_31):
+L(155_32):
 	mov %rcx,%rdx
 	movdqa %xmm0,%xmm1
 	mov 0x8(%rdi),%rax
 	cmp %rax,0x10(%rdi)
-	jne L(155_28)
-L(155_32):
+	jne L(155_29)
+L(155_33):
 	mov %rsi,0x68(%rsp)
 	movdqa %xmm1,0xc0(%rsp)
 	mov %rdx,0x10(%rsp)
 	call std_alloc.vec.Vec.grow_amortized.8534428d71883c78
 	test %al,%al
-	je L(155_36)
+	je L(155_37)
 	mov 0x18(%rsp),%rdi
 	mov 0x8(%rdi),%rax
 	mov 0x10(%rsp),%rdx
 	movdqa 0xc0(%rsp),%xmm1
-	jmp L(155_28)
-L(155_33):
-	movzbl 0x0(%r13),%r10d
+	jmp L(155_29)
 L(155_34):
+	movzbl 0x0(%r13),%r10d
+L(155_35):
 	movzbl %r10b,%eax
 	cmp $0x2,%al
 	mov $0x1,%r10d
 	cmovae %eax,%r10d
 	mov %r10b,0x0(%r13)
-	jb L(155_35)
+	jb L(155_36)
 	xor %r13d,%r13d
 	xor %ebp,%ebp
 	xor %ebx,%ebx
@@ -42168,7 +42165,7 @@ L(155_34):
 	xor %esi,%esi
 	xor %r8d,%r8d
 	jmp L(155_11)
-L(155_35):
+L(155_36):
 	movzbl %bpl,%eax
 	mov %eax,(%rsp)
 	lea 0x20(%rsp),%rdi
@@ -42185,23 +42182,23 @@ L(155_35):
 	mov 0x58(%rsp),%rbp
 	mov 0x60(%rsp),%r13
 	jmp L(155_11)
-L(155_36):
+L(155_37):
 	mov $0x1,%al
 	cmpb $0x0,0x68(%rsp)
-	je L(155_29)
+	je L(155_30)
 	test %r12,%r12
-	je L(155_37)
+	je L(155_38)
 	mov %r14,%rdi
 	call rattle_dealloc
 	mov $0x1,%al
-L(155_37):
+L(155_38):
 	test %r13,%r13
-	je L(155_29)
+	je L(155_30)
 	mov %rbx,%rdi
 	call rattle_dealloc
 	mov $0x1,%al
-	jmp L(155_29)
-	SIZE(ring_sums.list.append_line, 1325)
+	jmp L(155_30)
+	SIZE(ring_sums.list.append_line, 1307)
 
 	CODE(ring_sums.entry.tagged_among)
 	.p2align 4
@@ -42214,192 +42211,177 @@ ring_sums.entry.tagged_among:
 	push %r13
 	push %r12
 	push %rbx
-	sub $0x28,%rsp
-	mov %r8,%r14
-	mov %rdx,%r12
-	mov %rsi,%r13
-	mov %rdi,0x10(%rsp)
-	mov %rcx,0x18(%rsp)
-	lea -0x9f(%rcx),%rax
-	mov %rax,0x20(%rsp)
-	xor %r15d,%r15d
+	mov %rcx,%rax
+	mov %rdi,-0x8(%rsp)
+	xor %r11d,%r11d
 	jmp L(157_1)
-	.byte 0x66, 0x66, 0x66, 0x66, 0x66, 0x2e, 0x0f, 0x1f, 0x84, 0x00, 0x00, 0x00, 0x00, 0x00 /* data16 data16 data16 data16 cs nopw 0x0(%rax,%rax,1) */
+	{disp32} nopw 0x0(%rax,%rax,1)
 L(157_0):
-	inc %r15
-	cmp %r12,%r15
-	je L(157_14)
+	inc %r11
+	cmp %rdx,%r11
+	je L(157_15)
 L(157_1):
-	movzbl 0x0(%r13,%r15,1),%ebx
-	cmp $0x3,%rbx
+	movzbl (%rsi,%r11,1),%r9d
+	cmp $0x3,%r9
 	jae L(157_2)
-	lea L(switch.table.ring_sums.entry.tagged_among)(%rip),%rax
-	mov (%rax,%rbx,8),%rbp
-	lea L(328_0)(%rip),%rax
-	mov (%rax,%rbx,8),%rdx
-	cmp %rbp,%r14
+	lea L(switch.table.ring_sums.entry.tagged_among)(%rip),%rcx
+	mov (%rcx,%r9,8),%r14
+	lea L(328_0)(%rip),%rcx
+	mov (%rcx,%r9,8),%rcx
+	mov %r8,%r10
+	sub %r14,%r10
 	jb L(157_0)
 	jmp L(157_3)
-	.byte 0x66, 0x66, 0x2e, 0x0f, 0x1f, 0x84, 0x00, 0x00, 0x00, 0x00, 0x00 /* data16 cs nopw 0x0(%rax,%rax,1) */
+	{disp32} nopw 0x0(%rax,%rax,1)
 L(157_2):
-	xor %eax,%eax
-	cmp $0x3,%bl
-	setne %al
-	lea L(static.121)(%rip),%rcx
-	lea L(static.144)(%rip),%rdx
-	cmove %rcx,%rdx
-	lea 0x6(,%rax,4),%rbp
-	cmp %rbp,%r14
+	xor %edi,%edi
+	cmp $0x3,%r9b
+	setne %dil
+	lea L(static.121)(%rip),%r10
+	lea L(static.144)(%rip),%rcx
+	cmove %r10,%rcx
+	lea 0x6(,%rdi,4),%r14
+	mov %r8,%r10
+	sub %r14,%r10
 	jb L(157_0)
 L(157_3):
-	mov 0x18(%rsp),%rdi
-	mov %rbp,%rsi
-	mov %rbp,%rcx
-	call core.cmp.slices.parts_equal.i8.31.core.cmp.numbers.U8PartialEq
-	mov %r14,%rdi
-	sub %rbp,%rdi
-	je L(157_0)
-	test %al,%al
-	je L(157_0)
-	mov 0x18(%rsp),%rax
-	lea (%rax,%rbp,1),%r8
-	movzbl (%r8),%eax
-	xor %ecx,%ecx
-	cmp $0x20,%al
-	sete %cl
-	sub %rcx,%rdi
-	je L(157_0)
-	xor %r9d,%r9d
-	cmp $0x20,%al
-	sete %r9b
-	dec %rdi
-	xor %eax,%eax
-	cmpb $0x28,(%r8,%r9,1)
-	lea 0x1(%r8,%r9,1),%rsi
-	mov $0x0,%edx
-	cmove %rsi,%rdx
-	cmove %rdi,%rax
-	mov %rax,0x8(%rsp)
-	jne L(157_0)
-	cmp $0x20,%rdi
-	jb L(157_9)
-	add %r9,%rbp
-	add 0x20(%rsp),%rbp
+	lea (%rax,%r14,1),%rbx
+	xor %edi,%edi
+	.byte 0x66, 0x66, 0x66, 0x66, 0x66, 0x2e, 0x0f, 0x1f, 0x84, 0x00, 0x00, 0x00, 0x00, 0x00 /* data16 data16 data16 data16 cs nopw 0x0(%rax,%rax,1) */
 L(157_4):
-	movdqu -0x20(%rsi,%rdi,1),%xmm1
-	movdqu -0x10(%rsi,%rdi,1),%xmm2
+	movzbl (%rax,%rdi,1),%ebp
+	cmp (%rcx,%rdi,1),%bpl
+	jne L(157_0)
+	inc %rdi
+	cmp %rdi,%r14
+	jne L(157_4)
+	test %r10,%r10
+	je L(157_0)
+	movzbl (%rbx),%ecx
+	cmp $0x20,%cl
+	jne L(157_5)
+	dec %r10
+	je L(157_0)
+	movzbl 0x1(%rbx),%ecx
+	inc %rbx
+L(157_5):
+	cmp $0x28,%cl
+	jne L(157_0)
+	lea 0x1(%rbx),%r14
+	lea -0x1(%r10),%rdi
+	mov %rdi,%rcx
+	cmp $0x20,%rdi
+	jb L(157_11)
+	mov %rdi,%r13
+L(157_6):
+	movdqu -0x20(%r14,%r13,1),%xmm1
+	movdqu -0x10(%r14,%r13,1),%xmm2
 	movdqa L(CPI75_0)(%rip),%xmm0
 	pcmpeqb %xmm0,%xmm1
-	pmovmskb %xmm1,%ecx
+	pmovmskb %xmm1,%ebp
 	pcmpeqb %xmm0,%xmm2
-	pmovmskb %xmm2,%eax
-	shl $0x10,%eax
-	or %ecx,%eax
-	je L(157_6)
-	lea -0x20(%rdi),%r11
-	mov %eax,%eax
-	{disp32} nopw 0x0(%rax,%rax,1)
-L(157_5):
-	bsr %rax,%rcx
-	lea (%rcx,%r11,1),%r10
-	cmpb $0x29,(%rsi,%r10,1)
-	je L(157_11)
-	mov $0xfffffffffffffffe,%r10
-	rol %cl,%r10
-	and %r10,%rax
-	jne L(157_5)
-L(157_6):
-	mov %rdi,%rax
-	.byte 0x66, 0x66, 0x2e, 0x0f, 0x1f, 0x84, 0x00, 0x00, 0x00, 0x00, 0x00 /* data16 cs nopw 0x0(%rax,%rax,1) */
+	pmovmskb %xmm2,%ecx
+	shl $0x10,%ecx
+	or %ebp,%ecx
+	je L(157_8)
+	lea -0x20(%r13),%rbp
+	mov %ecx,%r15d
+	{disp8} nopl 0x0(%rax)
 L(157_7):
-	mov %rax,%rcx
-	lea -0x20(%rax),%rdi
-	cmp $0x80,%rdi
-	jb L(157_8)
-	movdqu 0x0(%rbp,%rcx,1),%xmm1
-	movdqu 0x10(%rbp,%rcx,1),%xmm2
+	bsr %r15,%rcx
+	lea (%rcx,%rbp,1),%r12
+	cmpb $0x29,(%r14,%r12,1)
+	je L(157_12)
+	mov $0xfffffffffffffffe,%r12
+	rol %cl,%r12
+	and %r12,%r15
+	jne L(157_7)
+L(157_8):
+	mov %r13,%r15
+	.byte 0x66, 0x66, 0x2e, 0x0f, 0x1f, 0x84, 0x00, 0x00, 0x00, 0x00, 0x00 /* data16 cs nopw 0x0(%rax,%rax,1) */
+L(157_9):
+	mov %r15,%rcx
+	lea -0x20(%r15),%r13
+	cmp $0x80,%r13
+	jb L(157_10)
+	movdqu -0x9f(%rbx,%rcx,1),%xmm1
+	movdqu -0x8f(%rbx,%rcx,1),%xmm2
+	movdqu -0x7f(%rbx,%rcx,1),%xmm3
+	movdqu -0x6f(%rbx,%rcx,1),%xmm4
 	pcmpeqb %xmm0,%xmm1
 	pcmpeqb %xmm0,%xmm2
-	movdqu -0x80(%rdx,%rcx,1),%xmm3
-	movdqu -0x70(%rdx,%rcx,1),%xmm4
-	movdqu -0x60(%rdx,%rcx,1),%xmm5
-	movdqu -0x50(%rdx,%rcx,1),%xmm6
 	pcmpeqb %xmm0,%xmm3
 	por %xmm1,%xmm3
 	pcmpeqb %xmm0,%xmm4
 	por %xmm2,%xmm4
-	pcmpeqb %xmm0,%xmm5
-	pcmpeqb %xmm0,%xmm6
-	movdqu -0x30(%rdx,%rcx,1),%xmm1
-	movdqu -0x40(%rdx,%rcx,1),%xmm2
+	movdqu -0x4f(%rbx,%rcx,1),%xmm1
+	movdqu -0x5f(%rbx,%rcx,1),%xmm2
 	pcmpeqb %xmm0,%xmm2
-	por %xmm5,%xmm2
-	por %xmm3,%xmm2
 	pcmpeqb %xmm0,%xmm1
-	por %xmm6,%xmm1
-	por %xmm4,%xmm1
-	por %xmm2,%xmm1
-	pmovmskb %xmm1,%r10d
-	lea -0x80(%rcx),%rax
-	test %r10d,%r10d
-	je L(157_7)
-L(157_8):
-	cmp $0x1f,%rdi
-	ja L(157_4)
-	add $0xffffffffffffffe0,%rcx
-	mov %rcx,%rdi
-L(157_9):
-	add %r9,%r8
-	.byte 0x66, 0x66, 0x66, 0x66, 0x66, 0x2e, 0x0f, 0x1f, 0x84, 0x00, 0x00, 0x00, 0x00, 0x00 /* data16 data16 data16 data16 cs nopw 0x0(%rax,%rax,1) */
+	movdqu -0x2f(%rbx,%rcx,1),%xmm5
+	movdqu -0x3f(%rbx,%rcx,1),%xmm6
+	pcmpeqb %xmm0,%xmm6
+	por %xmm2,%xmm6
+	por %xmm3,%xmm6
+	pcmpeqb %xmm0,%xmm5
+	por %xmm1,%xmm5
+	por %xmm4,%xmm5
+	por %xmm6,%xmm5
+	pmovmskb %xmm5,%ebp
+	lea -0x80(%rcx),%r15
+	test %ebp,%ebp
+	je L(157_9)
 L(157_10):
-	test %rdi,%rdi
-	je L(157_0)
-	lea -0x1(%rdi),%r10
-	cmpb $0x29,(%r8,%rdi,1)
-	mov %r10,%rdi
-	jne L(157_10)
+	cmp $0x1f,%r13
+	ja L(157_6)
+	add $0xffffffffffffffe0,%rcx
+	.byte 0x66, 0x66, 0x66, 0x2e, 0x0f, 0x1f, 0x84, 0x00, 0x00, 0x00, 0x00, 0x00 /* data16 data16 cs nopw 0x0(%rax,%rax,1) */
 L(157_11):
-	lea 0x1(%r10),%rax
-	cmp %rax,0x8(%rsp)
+	test %rcx,%rcx
 	je L(157_0)
-	lea (%rdx,%r10,1),%rdi
-	inc %rdi
-	mov %r10,%r8
-	not %r8
-	add 0x8(%rsp),%r8
-	xor %ecx,%ecx
-	jmp L(157_13)
-	{disp8} nopl 0x0(%rax)
+	lea -0x1(%rcx),%r12
+	cmpb $0x29,(%rbx,%rcx,1)
+	mov %r12,%rcx
+	jne L(157_11)
 L(157_12):
-	inc %rcx
-	cmp %rcx,%r8
+	lea 0x1(%r12),%rcx
+	cmp %rcx,%rdi
 	je L(157_0)
+	lea (%r14,%r12,1),%r15
+	inc %r15
+	sub %r12,%r10
+	lea -0x2(%r10),%r13
+	xor %ecx,%ecx
+	jmp L(157_14)
+	.byte 0x66, 0x2e, 0x0f, 0x1f, 0x84, 0x00, 0x00, 0x00, 0x00, 0x00 /* cs nopw 0x0(%rax,%rax,1) */
 L(157_13):
-	movzbl (%rdi,%rcx,1),%eax
-	cmp $0x20,%eax
-	je L(157_12)
-	cmp $0x9,%eax
-	je L(157_12)
-	cmp %rcx,%r8
+	inc %rcx
+	cmp %rcx,%r13
 	je L(157_0)
-	cmpb $0x3d,(%rdi,%rcx,1)
-	jne L(157_0)
-	mov 0x8(%rsp),%r9
-	sub %r10,%r9
-	lea -0x2(%r9),%r8
-	lea L(static.19)(%rip),%rdi
-	cmp %rcx,%r8
-	jne L(157_16)
-	xor %r9d,%r9d
-	jmp L(157_21)
 L(157_14):
+	movzbl (%r15,%rcx,1),%edi
+	cmp $0x20,%edi
+	je L(157_13)
+	cmp $0x9,%edi
+	je L(157_13)
+	cmp %rcx,%r13
+	je L(157_0)
+	cmpb $0x3d,(%r15,%rcx,1)
+	jne L(157_0)
+	lea -0x3(%r10),%rdx
+	lea L(static.19)(%rip),%rax
+	cmp %rcx,%rdx
+	jne L(157_17)
+	xor %r10d,%r10d
+	mov -0x8(%rsp),%r8
+	jmp L(157_21)
+L(157_15):
 	pxor %xmm0,%xmm0
-	mov 0x10(%rsp),%rax
+	mov -0x8(%rsp),%rax
 	movdqu %xmm0,0x20(%rax)
 	movdqu %xmm0,0x10(%rax)
 	movdqu %xmm0,(%rax)
-L(157_15):
-	add $0x28,%rsp
+L(157_16):
 	pop %rbx
 	pop %r12
 	pop %r13
@@ -42407,42 +42389,40 @@ L(157_15):
 	pop %r15
 	pop %rbp
 	ret
-L(157_16):
-	lea (%rdx,%r10,1),%rax
-	add $0x2,%rax
-	jmp L(157_18)
 L(157_17):
-	inc %rcx
-	cmp %rcx,%r8
-	je L(157_19)
+	lea (%rbx,%r12,1),%rsi
+	add $0x3,%rsi
+	mov -0x8(%rsp),%r8
+	jmp L(157_19)
 L(157_18):
-	movzbl (%rax,%rcx,1),%esi
-	cmp $0x20,%esi
-	je L(157_17)
-	cmp $0x9,%esi
-	je L(157_17)
-	lea (%rdx,%r10,1),%rax
-	lea (%rcx,%rax,1),%rdi
-	add $0x2,%rdi
-	sub %rcx,%r9
-	add $0xfffffffffffffffe,%r9
-	jmp L(157_20)
+	inc %rcx
+	cmp %rcx,%rdx
+	je L(157_20)
 L(157_19):
-	xor %r9d,%r9d
+	movzbl (%rsi,%rcx,1),%edi
+	cmp $0x20,%edi
+	je L(157_18)
+	cmp $0x9,%edi
+	je L(157_18)
+	add %r12,%rbx
+	lea (%rcx,%rbx,1),%rax
+	add $0x3,%rax
+	sub %rcx,%r10
+	add $0xfffffffffffffffd,%r10
+	jmp L(157_21)
 L(157_20):
-	mov %rdx,%rsi
+	xor %r10d,%r10d
 L(157_21):
-	mov 0x10(%rsp),%rax
-	movq $0x1,(%rax)
-	mov %bl,0x8(%rax)
-	movl $0x0,0x9(%rax)
-	movl $0x0,0xc(%rax)
-	mov %rsi,0x10(%rax)
-	mov %r10,0x18(%rax)
-	mov %rdi,0x20(%rax)
-	mov %r9,0x28(%rax)
-	jmp L(157_15)
-	SIZE(ring_sums.entry.tagged_among, 858)
+	movq $0x1,(%r8)
+	mov %r9b,0x8(%r8)
+	movl $0x0,0x9(%r8)
+	movl $0x0,0xc(%r8)
+	mov %r14,0x10(%r8)
+	mov %r12,0x18(%r8)
+	mov %rax,0x20(%r8)
+	mov %r10,0x28(%r8)
+	jmp L(157_16)
+	SIZE(ring_sums.entry.tagged_among, 804)
 
 	CODE(ring_sums.entry.entry_with)
 	.p2align 4

@@ -4,7 +4,7 @@
 #
 #     make dist                 # makes the packages that this machine has the tools for
 #     make dist PACKAGES=       # makes some packages: the words of WORDS below
-#     make dist-check           # tries each in a Debian system, as root and with a network
+#     make dist-check           # tries each in a Debian system, by sudo and with a network
 #
 # With ARCH=aarch64 they are those for 64-bit ARM.
 #
@@ -199,8 +199,11 @@ windows-zip windows-wheel macos-tarball: %:
 packages-named:
 	@echo $(CAN_MAKE)
 
-# Each package in a Debian system of its own, which has neither the kit nor this repository.
+# Each package in a Debian system of its own, which has neither the kit nor this repository. The
+# systems need root, and nothing else: else out/ would be root's, and `dist` would miss the tools of
+# the caller's PATH.
+SUDO ?= $(if $(filter 0,$(shell id -u)),,$(if $(call missing,sudo),,sudo))
 dist-check: dist
-	packaging/test/packages "$(DIST)" $(ARCH)
+	$(SUDO) env ROOTS='$(ROOTS)' SUITES='$(SUITES)' packaging/test/packages "$(DIST)" $(ARCH)
 
 .PHONY: dist dist-check packages-named windows-zip windows-wheel macos-tarball $(WORDS:%=dist-%)

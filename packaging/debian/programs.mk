@@ -1,16 +1,23 @@
 # SPDX-License-Identifier: ISC
-# The Debian package of the programs `sums` and `passwords`, for x86-64 alone: one word of PACKAGES
-# in packaging/dist.mk. They are built from the assembly text in generated/, as the library is.
+# The programs, for x86-64 alone, built from the assembly text in generated/, as the library is; and
+# the Debian package of `sums` and `passwords`: one word of PACKAGES in packaging/dist.mk.
+#
+#     make verify-programs      # shows the programs' code for all inputs
 
 TOOLS_DEB = yezdopin-tools
 TOOLS = ring_sums_main ring_passwords
 TOOLS_TEXTS = $(wildcard $(TOOLS:%=generated/%.S))
 PROGRAMS = $(WHOLE_OUT)/programs
+# `bench` has another one.
+ALL_PROGRAMS = $(patsubst %,$(OUT)/programs/%,$(TOOLS) ring_bench_main)
 
-$(TOOLS:%=$(OUT)/programs/%): $(OUT)/programs/%: generated/%.S programs/build \
+$(ALL_PROGRAMS): $(OUT)/programs/%: generated/%.S programs/build \
     programs/runtime.c c/processor.c c/processor.h $(HEADER)
 	mkdir -p $(@D)
 	CC='$(CC)' CFLAGS=-O2 LDFLAGS= programs/build $* $@
+
+verify-programs: $(ALL_PROGRAMS)
+	for it in $^; do $(PYTHON) verify/check $(VERIFY_FLAGS) $$it || exit 1; done
 
 # $(call launcher,NAME): a launcher of the repository that runs the installed program, and builds
 # none.
@@ -42,4 +49,4 @@ dist-deb-$(TOOLS_DEB): $(TOOLS:%=$(OUT)/programs/%)
 	$(call launcher,passwords)
 	$(call deb,$(TOOLS_DEB))
 
-.PHONY: dist-deb-$(TOOLS_DEB)
+.PHONY: dist-deb-$(TOOLS_DEB) verify-programs

@@ -46,7 +46,8 @@ wheel: $(ARCHIVE)
 	        $(PYTHON) -m pip install --quiet --disable-pip-version-check --no-index \
 	        --upgrade --target $(OUT)/wheel $$it && \
 	    (cd $(OUT)/wheel && $(PYTHON) -B -m doctest yezdopin/__init__.py yezdopin/hmac.py \
-        yezdopin/merkle.py yezdopin/password_hash.py yezdopin/tokens.py) \
+        yezdopin/merkle.py yezdopin/password_hash.py yezdopin/tls13.py yezdopin/tokens.py \
+        yezdopin/webhook.py) \
 	        || exit 1; \
 	done
 

@@ -55,7 +55,9 @@ static int fill(PyObject *module)
     if (PyModule_AddFunctions(module, tag_functions) != 0) return -1;
     if (PyModule_AddFunctions(module, derivation_functions) != 0) return -1;
     if (PyModule_AddFunctions(module, merkle_functions) != 0) return -1;
-    return PyModule_AddFunctions(module, token_functions);
+    if (PyModule_AddFunctions(module, token_functions) != 0) return -1;
+    if (PyModule_AddFunctions(module, webhook_functions) != 0) return -1;
+    return PyModule_AddFunctions(module, tls13_functions);
 }
 
 static int traverse(PyObject *module, visitproc visit, void *arg)

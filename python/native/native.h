@@ -86,7 +86,8 @@ PyObject *begun_tag(PyTypeObject *type, uint32_t algorithm, const yz_hmac_key *k
 extern PyType_Spec digest_spec;
 extern PyType_Spec tag_spec;
 
-/* digests.c, several.c, tags.c, derivation.c, merkle.c, tokens.c: what the module is made of. */
+/* digests.c, several.c, tags.c, derivation.c, merkle.c, tokens.c, webhook.c, tls13.c: what the module
+ * is made of. */
 uint32_t algorithm_of_constructor(PyObject *object);
 PyObject *digest_each(PyObject *module, PyObject *const *args, Py_ssize_t args_len,
                       PyObject *keywords);
@@ -95,6 +96,8 @@ extern PyMethodDef tag_functions[];
 extern PyMethodDef derivation_functions[];
 extern PyMethodDef merkle_functions[];
 extern PyMethodDef token_functions[];
+extern PyMethodDef webhook_functions[];
+extern PyMethodDef tls13_functions[];
 extern PyType_Spec key_spec;
 
 #endif

@@ -14,7 +14,7 @@ import unittest
 import yezdopin
 from shared import SIGNING
 from yezdopin import hmac as tags
-from yezdopin import merkle, password_hash, tokens
+from yezdopin import merkle, password_hash, tls13, tokens, webhook
 
 KEY = bytes(range(64))
 LONG_LEN = 30_000_000
@@ -90,6 +90,14 @@ class Buffers(unittest.TestCase):
             (few, lambda it: tokens.find_hotp(it, "no otp", 0, 200_000)),
             (bytearray(b"no otp"), lambda it: tokens.find_totp(KEY, it, 0, ahead=200_000)),
             (long, lambda it: merkle.leaf(it)),
+            (long, lambda it: webhook.verify_github(b"key", it, "no tag")),
+            (few, lambda it: webhook.verify_github(it, long, "no tag")),
+            (few, lambda it: webhook.verify_github(b"key", long, it)),
+            (few, lambda it: webhook.verify_hex("sha1", b"key", long, "no tag", it)),
+            (long, lambda it: webhook.verify_hex("sha1", it, b"", "no tag")),
+            (bytearray(b"t=0,v1=no tag"),
+             lambda it: webhook.verify_stripe(b"key", long, it, now=0)),
+            (long, lambda it: tls13.binder_key("sha1", it, is_external=True)),
         ):
             self.is_held(data, call)
 
@@ -218,7 +226,7 @@ class Memory(unittest.TestCase):
     def test_words_of_keys(self):
         """No call leaves the words of a key in memory that is freed, and this search finds those of
         one that is held."""
-        value, long = os.urandom(40), bytes(100_000)
+        value, long = os.urandom(32), bytes(100_000)
         token = tokens.sign(b"{}", value)
         text = password_hash.new("phc-sha256", value, iterations=2)
         tag = hmac.digest(value, long, "sha256")
@@ -249,6 +257,11 @@ class Memory(unittest.TestCase):
             lambda: self.assertRaises(yezdopin.Error, tokens.verify, token + "A", value),
             lambda: tokens.find_totp(value, "123456", 0, digest="sha256"),
             lambda: tokens.hotp(value, 0, digest="sha256"),
+            lambda: webhook.verify_github(value, long, tag),
+            lambda: webhook.verify_hex("sha256", value, long, tag.hex(), "x"),
+            lambda: webhook.verify_stripe(value, long, "t=1,v1=00", now=1),
+            lambda: tls13.finished("sha256", value, tag),
+            lambda: tls13.verify_finished("sha256", value, tag, tag),
             lambda: self.assertRaises(TypeError, tags.new, value, "text", "sha256"),
             lambda: self.assertRaises(TypeError, tags.Key(value, "sha256").verify, b"", "text"),
         ):

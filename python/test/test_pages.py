@@ -1,10 +1,15 @@
 # SPDX-License-Identifier: ISC
-"""The functions of the pages' examples, with what a login meets."""
+"""The functions of the pages' examples, with what a login and an endpoint meet."""
 
+import hmac
+import http.client
+import http.server
 import pathlib
 import re
+import threading
 import time
 import unittest
+from unittest import mock
 
 import yezdopin
 from yezdopin import password_hash, tokens
@@ -12,10 +17,10 @@ from yezdopin import password_hash, tokens
 PAGES = pathlib.Path(__file__).resolve().parents[2]
 
 
-def example(page, function):
-    """The names that the block of a page makes in which a function is defined."""
+def example(page, name):
+    """The names that the block of a page makes in which a function or a class is defined."""
     blocks = re.findall(r"^```python\n(.*?)^```", (PAGES / page).read_text(), re.M | re.S)
-    (block,) = [it for it in blocks if f"\ndef {function}(" in it]
+    (block,) = [it for it in blocks if re.search(rf"^(?:def|class) {name}\(", it, re.M)]
     names = {}
     exec(block, names)  # pylint: disable=exec-used
     return names
@@ -40,6 +45,45 @@ class Tokens(unittest.TestCase):
         for refused in (None, "", "0", typed[:-1], typed + "0"):
             with self.subTest(refused):
                 self.assertIsNone(made["log_in"](user, refused, key))
+
+
+class Webhooks(unittest.TestCase):
+    SECRET, BODY, NAME = b"a secret of the webhook", b'{"action": "opened"}', "X-Hub-Signature-256"
+
+    def test_an_endpoint(self):
+        """It takes a body with the header that `hmac` makes of it, and no other request."""
+        with mock.patch.dict("os.environb", {b"WEBHOOK_SECRET": self.SECRET}):
+            made = example("python/README.md", "Hook")
+        made["Hook"].log_message = lambda *_: None
+        server = http.server.HTTPServer(("127.0.0.1", 0), made["Hook"])
+        thread = threading.Thread(target=server.serve_forever)
+        thread.start()
+        right = f"sha256={hmac.new(self.SECRET, self.BODY, 'sha256').hexdigest()}"
+        of_another = f"sha256={hmac.new(b'another', self.BODY, 'sha256').hexdigest()}"
+        try:
+            self.assertEqual(self.posted(server, self.BODY, {self.NAME: right}), 204)
+            for body, headers in (
+                (self.BODY, {}), (self.BODY, {self.NAME: ""}), (self.BODY, {self.NAME: right[:-1]}),
+                (self.BODY, {self.NAME: right.upper()}), (self.BODY, {self.NAME: of_another}),
+                (self.BODY, {"X-Hub-Signature": right}), (b"{}", {self.NAME: right}),
+                (b"", {self.NAME: right}), (self.BODY + b" ", {self.NAME: right}),
+            ):
+                with self.subTest(headers=headers):
+                    self.assertEqual(self.posted(server, body, headers), 403)
+        finally:
+            server.shutdown()
+            thread.join()
+            server.server_close()
+
+    @staticmethod
+    def posted(server, body, headers):
+        """The status that a server answers."""
+        to = http.client.HTTPConnection(*server.server_address[:2], timeout=60)
+        to.request("POST", "/", body, headers)
+        answer = to.getresponse()
+        answer.read()
+        to.close()
+        return answer.status
 
 
 class Passwords(unittest.TestCase):
@@ -82,11 +126,22 @@ class Passwords(unittest.TestCase):
         """No row ends in an exception: of no user, of no password, cut, or of another's making."""
         right = password_hash.new("django-sha256", self.PASSWORD, iterations=1000)
         for row in (
-            "", "!", "!7sLdCnEEbUgmLTnb9dWEYdaCZJq0ESfKRyEIkdpf", "*", "x" * 5000, right[:-1],
+            None, "", "!", "!7sLdCnEEbUgmLTnb9dWEYdaCZJq0ESfKRyEIkdpf", "*", "x" * 5000, right[:-1],
             right.replace("$1000$", "$4294967295$"), "bcrypt_sha256$$", "md5$salt$00", "plain text",
+            "$2b$12$short",
         ):
             with self.subTest(row):
                 self.assertIs(self.logs_in(row), False)
+        self.assertEqual(self.kept, [])
+
+    def test_passwords_that_others_raise_for(self):
+        """Of a row of another hash a password is wrong too where passlib raises for it."""
+        from passlib import hash as others
+
+        row = others.sha512_crypt.using(rounds=1000).hash(self.PASSWORD)
+        for password in (b"a\0password", b"x" * 5000, b"\xff"):
+            with self.subTest(password):
+                self.assertIs(self.logs_in(row, password), False)
         self.assertEqual(self.kept, [])
 
     def test_names_of_refusals(self):

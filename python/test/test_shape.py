@@ -19,7 +19,7 @@ import warnings
 
 import yezdopin
 from shared import NAMES, SIGNING, Foreign
-from yezdopin import _native, merkle, tokens
+from yezdopin import _native, merkle, tls13, tokens, webhook
 from yezdopin import hmac as tags
 
 PYPROJECT = pathlib.Path(__file__).resolve().parents[1] / "pyproject.toml"
@@ -37,7 +37,8 @@ class Names(unittest.TestCase):
 
     def test_modules(self):
         """Their modules come with the package, and hmac's has the names of `hmac`."""
-        modules = ["yezdopin.hmac", "yezdopin.merkle", "yezdopin.password_hash", "yezdopin.tokens"]
+        names = ("hmac", "merkle", "password_hash", "tls13", "tokens", "webhook")
+        modules = [f"yezdopin.{it}" for it in names]
         told = ", ".join(f"{it}.__name__" for it in modules)
         command = [sys.executable, "-c", f"import yezdopin; print({told})"]
         done = subprocess.run(command, capture_output=True, text=True, check=True)
@@ -88,7 +89,7 @@ class Names(unittest.TestCase):
             if callable(it) and it not in (yezdopin.Digest, yezdopin.Error):
                 self.assertTrue(it.__doc__, name)
                 inspect.signature(it)
-        for module in (merkle, tokens):
+        for module in (merkle, tls13, tokens, webhook):
             for name in module.__all__:
                 word = module.__name__.rpartition(".")[2]
                 ours, native = getattr(module, name), getattr(_native, f"{word}_{name}")

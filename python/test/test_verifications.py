@@ -9,7 +9,7 @@ import unittest
 
 import yezdopin
 from yezdopin import hmac as tags
-from yezdopin import merkle, password_hash, tokens
+from yezdopin import merkle, password_hash, tls13, tokens, webhook
 
 EDIT = re.compile(r"@(v\d+)(?:=(\d+):(..)|<(\d+)|>(\d+)|\+(\w+))?")
 KINDS = (bytes, bytearray, memoryview)
@@ -126,6 +126,36 @@ class Calls:
             password_hash.verify, kind(text), kind(password), max_iterations=int(most)
         )
 
+    def webhook_hex(self, kind, name, prefix, secret, body, header):
+        name, prefix, header = name.lower(), self.of(prefix), self.of(header)
+        given = name, kind(self.of(secret)), kind(self.of(body))
+        answer = webhook.verify_hex(*given, kind(header), kind(prefix))
+        if not (prefix.isascii() and header.isascii()):
+            return answer
+        return agreed(answer, webhook.verify_hex(*given, header.decode(), prefix.decode()))
+
+    def webhook_github(self, kind, secret, body, header):
+        return self.verified(webhook.verify_github, kind, secret, body, header)
+
+    def webhook_stripe(self, kind, secret, body, header, now, tolerance):
+        named = {"now": int(now), "tolerance": int(tolerance)}
+        return self.verified(webhook.verify_stripe, kind, secret, body, header, **named)
+
+    def verified(self, call, kind, secret, body, header, **named):
+        given, header = (kind(self.of(secret)), kind(self.of(body))), self.of(header)
+        answer = call(*given, kind(header), **named)
+        if not header.isascii():
+            return answer
+        return agreed(answer, call(*given, header.decode(), **named))
+
+    def tls13_finished(self, kind, name, base_key, transcript, data):
+        given = name.lower(), kind(self.of(base_key)), kind(self.of(transcript))
+        made = refused_or(tls13.finished, *given)
+        return agreed(
+            refused_or(tls13.verify_finished, *given, kind(self.of(data))),
+            made if made is None else tags.compare_digest(made, kind(self.of(data))),
+        )
+
     def equal(self, kind, a, b):
         a, b = self.of(a), self.of(b)
         answer = tags.compare_digest(kind(a), b)
@@ -145,6 +175,10 @@ METHODS = {
     "merkle-consistency": Calls.merkle_consistency,
     "merkle-consistency-of-other-lengths": Calls.merkle_consistency,
     "password-verify": Calls.password_verify,
+    "webhook-hex": Calls.webhook_hex,
+    "webhook-github": Calls.webhook_github,
+    "webhook-stripe": Calls.webhook_stripe,
+    "tls13-finished": Calls.tls13_finished,
     "equal": Calls.equal,
 }
 

@@ -60,6 +60,24 @@ def enters(payload: bytes, key: bytes, secret: bytes, otp: str, last: int) -> st
     return token if again == payload else ""
 
 
+def receives(secret: bytes, body: bytes, headers: dict[str, str]) -> bool:
+    """Whether a webhook's request is one of those that sign."""
+    webhook = yezdopin.webhook
+    is_hubs: bool = webhook.verify_github(secret, body, headers.get("X-Hub-Signature-256"))
+    header: bytes = headers.get("Stripe-Signature", "").encode()
+    is_stripes = webhook.verify_stripe(bytearray(secret), body, header, tolerance=60, now=None)
+    is_other: bool = webhook.verify_hex(hashlib.sha1, secret, memoryview(body), None, prefix=b"v=")
+    return is_hubs or is_stripes or webhook.verify_hex("sha1", secret, body, "") or is_other
+
+
+def binds(psk: bytes, client_hello: bytes, binder: bytes) -> bool:
+    """Whether a ClientHello has the binder of a ticket's key."""
+    key: bytes = yezdopin.tls13.binder_key("sha512", psk, is_external=False)
+    covered = yezdopin.new("sha512", client_hello).digest()
+    made: bytes = yezdopin.tls13.finished("sha512", bytearray(key), covered)
+    return yezdopin.tls13.verify_finished("sha512", key, covered, binder) and made == binder
+
+
 def names() -> set[str]:
     """The names of `hashlib` and `hmac` that are no calls."""
     pads: bytes = yezdopin.hmac.trans_36 + yezdopin.hmac.trans_5C

@@ -14,8 +14,9 @@
     ('ba7816bf', True)
 
 `yezdopin.hmac` has tags in the shape of `hmac`, `yezdopin.password_hash` writes and tests the
-password hashes of other systems, `yezdopin.tokens` has signed tokens and one-time passwords, and
-`yezdopin.merkle` verifies proofs of transparency logs; `import yezdopin` gives all. Buffers are
+password hashes of other systems, `yezdopin.tokens` has signed tokens and one-time passwords,
+`yezdopin.webhook` verifies signed requests, `yezdopin.merkle` proofs of transparency logs, and
+`yezdopin.tls13` has Finished messages and binders; `import yezdopin` gives all. Buffers are
 anything with bytes in one piece: `bytes`, `bytearray`, `memoryview`, arrays. What the library
 refuses raises `Error`, a `ValueError`.
 """
@@ -50,7 +51,9 @@ from yezdopin._native import (
 from yezdopin import hmac as hmac
 from yezdopin import merkle as merkle
 from yezdopin import password_hash as password_hash
+from yezdopin import tls13 as tls13
 from yezdopin import tokens as tokens
+from yezdopin import webhook as webhook
 
 __all__ = [
     "Digest",

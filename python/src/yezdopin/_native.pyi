@@ -187,3 +187,30 @@ def tokens_find_totp(
     digest: str | Callable[..., Digest],
     interval: int,
 ) -> int | None: ...
+def webhook_verify_hex(
+    algorithm: str | Callable[..., Digest],
+    secret: ReadableBuffer,
+    body: ReadableBuffer,
+    header: ReadableBuffer,
+    prefix: ReadableBuffer,
+) -> bool: ...
+def webhook_verify_github(
+    secret: ReadableBuffer, body: ReadableBuffer, header: ReadableBuffer
+) -> bool: ...
+def webhook_verify_stripe(
+    secret: ReadableBuffer,
+    body: ReadableBuffer,
+    header: ReadableBuffer,
+    tolerance: int,
+    now: int,
+) -> bool: ...
+def tls13_finished(
+    hash_name: str, base_key: ReadableBuffer, transcript_hash: ReadableBuffer
+) -> bytes: ...
+def tls13_verify_finished(
+    hash_name: str,
+    base_key: ReadableBuffer,
+    transcript_hash: ReadableBuffer,
+    verify_data: ReadableBuffer,
+) -> bool: ...
+def tls13_binder_key(hash_name: str, psk: ReadableBuffer, is_external: bool) -> bytes: ...

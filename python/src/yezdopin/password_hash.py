@@ -106,9 +106,9 @@ def verify(text: str | _Buffer, password: _Buffer, *, max_iterations: int) -> bo
     `Error` is raised for a limit below 1 (status 3, `YZ_NO_ITERATIONS`) and where the text has more
     than 1024 bytes (status 4, `YZ_WRONG_LENGTH`), `UnknownScheme` where no hash has it (status 5,
     `YZ_BAD_FORMAT`), and `TooManyIterations` where it names more than `max_iterations`, before
-    anything is derived (status 6, `YZ_TOO_MANY_ITERATIONS`). Whoever wrote the text chose its iterations, and so the
-    time of a test: the limit is the caller's. A text names at most 2**32 - 1 iterations, so that
-    this limit and any above it, such as 10**10, refuse none.
+    anything is derived (status 6, `YZ_TOO_MANY_ITERATIONS`). Whoever wrote the text chose its
+    iterations, and so the time of a test: the limit is the caller's. A text names at most
+    2**32 - 1 iterations, so that this limit and any above it, such as 10**10, refuse none.
     """
     text = _bytes_of(text)
     password = _password_for(_scheme_of(text), password)

@@ -109,8 +109,8 @@ def hotp(
     The hash is a name, or a constructor of `yezdopin` or `hashlib`. `Error` is raised for another
     one (status 1, `YZ_UNKNOWN_ALGORITHM`), for other than 6 to 8 digits (status 4,
     `YZ_WRONG_LENGTH`), and for a key of less than 16 bytes (RFC 4226, section 4; status 8,
-    `YZ_UNSPECIFIED`) unless `allow_short_key` is true and it has one at least; `OverflowError` for a
-    counter that has not 64 bits.
+    `YZ_UNSPECIFIED`) unless `allow_short_key` is true and it has one at least; `OverflowError` for
+    a counter that has not 64 bits.
     """
     return _native.tokens_hotp(_otp_key(key, allow_short_key), counter, digits, _known(digest))
 

@@ -153,6 +153,32 @@ extern "C" {
         out: *mut u8,
         out_len: usize,
     ) -> i32;
+    pub fn yz_tls13_finished(
+        algorithm: u32,
+        base_key: *const u8,
+        base_key_len: usize,
+        transcript_hash: *const u8,
+        transcript_hash_len: usize,
+        out: *mut u8,
+        out_len: usize,
+    ) -> i32;
+    pub fn yz_tls13_finished_verify(
+        algorithm: u32,
+        base_key: *const u8,
+        base_key_len: usize,
+        transcript_hash: *const u8,
+        transcript_hash_len: usize,
+        verify_data: *const u8,
+        verify_data_len: usize,
+    ) -> i32;
+    pub fn yz_tls13_binder_key(
+        algorithm: u32,
+        psk: *const u8,
+        psk_len: usize,
+        is_external: bool,
+        out: *mut u8,
+        out_len: usize,
+    ) -> i32;
     pub fn yz_pbkdf2_derive(
         algorithm: u32,
         iterations: u32,
@@ -299,6 +325,35 @@ extern "C" {
         text: *const u8,
         text_len: usize,
         counter: *mut u64,
+    ) -> i32;
+    pub fn yz_webhook_verify_hex(
+        algorithm: u32,
+        secret: *const u8,
+        secret_len: usize,
+        prefix: *const u8,
+        prefix_len: usize,
+        body: *const u8,
+        body_len: usize,
+        header: *const u8,
+        header_len: usize,
+    ) -> i32;
+    pub fn yz_webhook_verify_github(
+        secret: *const u8,
+        secret_len: usize,
+        body: *const u8,
+        body_len: usize,
+        header: *const u8,
+        header_len: usize,
+    ) -> i32;
+    pub fn yz_webhook_verify_stripe(
+        secret: *const u8,
+        secret_len: usize,
+        body: *const u8,
+        body_len: usize,
+        header: *const u8,
+        header_len: usize,
+        now: u64,
+        tolerance: u64,
     ) -> i32;
     pub fn yz_equal(a: *const u8, a_len: usize, b: *const u8, b_len: usize) -> bool;
     fn yz_clear(bytes: *mut u8, bytes_len: usize);

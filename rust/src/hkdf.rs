@@ -44,7 +44,7 @@ impl Algorithm {
         self.0
     }
 
-    fn number(&self) -> u32 {
+    pub(crate) fn number(&self) -> u32 {
         self.0.digest_algorithm().number
     }
 }
@@ -160,6 +160,22 @@ impl Prk {
     pub fn new_less_safe(algorithm: Algorithm, value: &[u8]) -> Self {
         let value = Secret(value.to_vec());
         Prk { value, algorithm }
+    }
+
+    // What a call writes into room for a digest, and whether it did.
+    pub(crate) fn written(
+        algorithm: Algorithm,
+        write: impl FnOnce(*mut u8, usize) -> i32,
+    ) -> Result<Self, Unspecified> {
+        let mut value = Secret(vec![0; algorithm.len()]);
+        done(write(value.0.as_mut_ptr(), value.0.len()))?;
+        Ok(Prk { value, algorithm })
+    }
+
+    // The algorithm and the bytes, as the calls take them.
+    pub(crate) fn parts(&self) -> (Algorithm, *const u8, usize) {
+        let value = self.value.bytes();
+        (self.algorithm, value.as_ptr(), value.len())
     }
 
     /// Asks for as many bytes as `len` says (RFC 5869, section 2.3). The info is the joined bytes

@@ -55,7 +55,7 @@ hmac_algorithms!();
 
 /// A tag: as a slice, as many bytes as a digest of its algorithm has.
 #[derive(Clone, Copy, Debug)]
-pub struct Tag(Digest);
+pub struct Tag(pub(crate) Digest);
 
 impl AsRef<[u8]> for Tag {
     fn as_ref(&self) -> &[u8] {

@@ -41,7 +41,9 @@ pub mod merkle;
 pub mod password_hash;
 pub mod pbkdf2;
 pub mod rand;
+pub mod tls13;
 pub mod tokens;
+pub mod webhook;
 
 /// The version of the library that is linked: the major number from bit 16 on, the minor from bit
 /// 8 on, and the patch's.

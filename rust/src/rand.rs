@@ -65,8 +65,9 @@ pub trait RandomlyConstructable: sealed::RandomlyConstructable {}
 impl<T: sealed::RandomlyConstructable> RandomlyConstructable for T {}
 
 /// The source of the operating system: on Linux with glibc or musl `getrandom(2)`, on macOS
-/// `getentropy(2)`, on Windows `BCryptGenRandom`. The crate doesn't build for others. The first call waits until the system has gathered enough, and none falls
-/// back to another source. One serves all threads.
+/// `getentropy(2)`, on Windows `BCryptGenRandom`. The crate doesn't build for others. The first
+/// call waits until the system has gathered enough, and none falls back to another source. One
+/// serves all threads.
 #[derive(Clone, Debug)]
 pub struct SystemRandom(());
 

@@ -11,7 +11,7 @@ use std::fmt::Debug;
 use std::time::{Duration, Instant};
 use yezdopin::error::Unspecified;
 use yezdopin::rand::{self, SecureRandom, SystemRandom};
-use yezdopin::{digest, hkdf, hmac, password_hash, pbkdf2, tokens};
+use yezdopin::{digest, hkdf, hmac, password_hash, pbkdf2, tls13, tokens};
 
 // The most bytes that one getrandom(2) writes, by its page; newer kernels write more.
 const MOST_AT_ONCE: usize = (1 << 25) - 1;
@@ -96,6 +96,9 @@ fn texts() {
         "Okm { prk: Prk(Key { algorithm: SHA512 }), info: [[97]], len: Algorithm(SHA256), \
          len_cached: 32 }",
     );
+    let key = tls13::binder_key(hkdf::HKDF_SHA512, b"a PSK", tls13::Psk::External).unwrap();
+    prints(&key, "Prk(Key { algorithm: SHA512 })");
+    prints(&tls13::Psk::External, "External");
     prints(&SystemRandom::new(), "SystemRandom(())");
 }
 
@@ -114,6 +117,7 @@ fn values_cross_threads() {
     may_cross_threads::<password_hash::Salt>();
     may_cross_threads::<pbkdf2::Algorithm>();
     may_cross_threads::<SystemRandom>();
+    may_cross_threads::<tls13::Psk>();
     may_cross_threads::<Unspecified>();
 }
 

@@ -12,17 +12,18 @@ use std::collections::BTreeSet;
 use std::fmt::Debug;
 use std::num::NonZeroU32;
 use std::str;
+use std::time::Duration;
 use values::Values;
 use yezdopin::constant_time::verify_slices_are_equal;
 use yezdopin::tokens::{jws, otp};
-use yezdopin::{hmac, merkle, password_hash, pbkdf2};
+use yezdopin::{hkdf, hmac, merkle, password_hash, pbkdf2, tls13, webhook};
 
 // What no call is to write over.
 const UNWRITTEN: u8 = 7;
 
 // The words of calls, and how those end that the crate's types leave no place for: a hash is an
 // array of 32 bytes.
-const WORDS: [&str; 9] = [
+const WORDS: [&str; 13] = [
     "hmac-verify",
     "pbkdf2-verify",
     "jws-verify",
@@ -31,6 +32,10 @@ const WORDS: [&str; 9] = [
     "merkle-inclusion",
     "merkle-consistency",
     "password-verify",
+    "webhook-hex",
+    "webhook-github",
+    "webhook-stripe",
+    "tls13-finished",
     "equal",
 ];
 const OTHER_LENGTHS: &str = "-of-other-lengths";
@@ -144,6 +149,35 @@ fn password_verify(values: &Values, fields: &[&str]) -> bool {
     str::from_utf8(&text).map_or(false, |text| verify(text).is_ok())
 }
 
+fn webhook_hex(values: &Values, fields: &[&str]) -> bool {
+    let algorithm = keyed_named(fields[0]).hmac;
+    let (prefix, secret) = (values.of(fields[1]), values.of(fields[2]));
+    let (body, header) = (values.of(fields[3]), values.of(fields[4]));
+    webhook::verify_hex(algorithm, &secret, &prefix, &body, &header).is_ok()
+}
+
+fn webhook_github(values: &Values, fields: &[&str]) -> bool {
+    let (secret, body) = (values.of(fields[0]), values.of(fields[1]));
+    webhook::verify_github(&secret, &body, &values.of(fields[2])).is_ok()
+}
+
+fn webhook_stripe(values: &Values, fields: &[&str]) -> bool {
+    let (secret, body) = (values.of(fields[0]), values.of(fields[1]));
+    let (header, tolerance) = (values.of(fields[2]), Duration::from_secs(number(fields[4])));
+    webhook::verify_stripe(&secret, &body, &header, number(fields[3]), tolerance).is_ok()
+}
+
+fn tls13_finished(values: &Values, fields: &[&str]) -> bool {
+    let algorithm = keyed_named(fields[0]).hkdf;
+    let base_key = hkdf::Prk::new_less_safe(algorithm, &values.of(fields[1]));
+    let (transcript, data) = (values.of(fields[2]), values.of(fields[3]));
+    let made = tls13::finished(&base_key, &transcript);
+    agreed(
+        tls13::verify_finished(&base_key, &transcript, &data).is_ok(),
+        made.map_or(false, |it| it.as_ref() == data),
+    )
+}
+
 // The answer to a call as the table has it, but for a payload, which is compared here.
 fn answer(values: &Values, word: &str, fields: &[&str], wanted: &str) -> String {
     let found = |it: Option<u64>| it.map_or(verdict(false), |it| it.to_string());
@@ -162,6 +196,10 @@ fn answer(values: &Values, word: &str, fields: &[&str], wanted: &str) -> String 
         "merkle-inclusion" => verdict(merkle_inclusion(values, fields)),
         "merkle-consistency" => verdict(merkle_consistency(values, fields)),
         "password-verify" => verdict(password_verify(values, fields)),
+        "webhook-hex" => verdict(webhook_hex(values, fields)),
+        "webhook-github" => verdict(webhook_github(values, fields)),
+        "webhook-stripe" => verdict(webhook_stripe(values, fields)),
+        "tls13-finished" => verdict(tls13_finished(values, fields)),
         "equal" => {
             let (a, b) = (values.of(fields[0]), values.of(fields[1]));
             verdict(verify_slices_are_equal(&a, &b).is_ok())

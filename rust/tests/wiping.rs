@@ -11,8 +11,10 @@ use algorithms::{all_keyed, Length};
 use freed::{freed_with_secret, wiped, MADE, MASK, SECRET};
 use std::num::NonZeroU32;
 use std::sync::{Mutex, MutexGuard};
+use std::time::Duration;
+use yezdopin::tls13::{self, Psk};
 use yezdopin::tokens::{jws, otp};
-use yezdopin::{digest, hkdf, hmac, password_hash, pbkdf2};
+use yezdopin::{digest, hkdf, hmac, password_hash, pbkdf2, webhook};
 
 // One test at a time.
 static TURN: Mutex<()> = Mutex::new(());
@@ -85,6 +87,30 @@ fn values_of_outputs() {
     *MADE.lock().unwrap() = [0; 48];
 }
 
+// Looks also for the key of a PSK's binders.
+#[test]
+fn keys_of_binders() {
+    let _turn = turn();
+    for it in all_keyed() {
+        let (nothing, len) = (digest::digest(it.digest, b""), it.digest.output_len());
+        let early_secret = hkdf::Salt::new(it.hkdf, &[]).extract(&SECRET);
+        let mut made = [0; digest::MAX_OUTPUT_LEN];
+        early_secret
+            .expand_label(b"res binder", nothing.as_ref(), &mut made[..len])
+            .unwrap();
+        *MADE.lock().unwrap() = std::array::from_fn(|at| made[at % len] ^ MASK);
+        assert_eq!(freed_with_secret(|| drop(made[..len].to_vec())), 1);
+        let freed = freed_with_secret(|| {
+            let key = tls13::binder_key(it.hkdf, &SECRET, Psk::Resumption).unwrap();
+            let data = tls13::finished(&key, nothing.as_ref()).unwrap();
+            tls13::verify_finished(&key.clone(), nothing.as_ref(), data.as_ref()).unwrap();
+            assert!(tls13::verify_finished(&key, nothing.as_ref(), &SECRET).is_err());
+        });
+        assert_eq!(freed, 0);
+    }
+    *MADE.lock().unwrap() = [0; 48];
+}
+
 #[test]
 fn calls_that_are_given_secrets() {
     let _turn = turn();
@@ -109,6 +135,9 @@ fn calls_that_are_given_secrets() {
         assert_eq!(found, Some(7));
         let algorithm = pbkdf2::PBKDF2_HMAC_SHA256;
         assert!(pbkdf2::verify(algorithm, iterations, b"salt", &SECRET, b"key").is_err());
+        let no_tag = b"t=0,v1=00";
+        assert!(webhook::verify_github(&SECRET, b"body", no_tag).is_err());
+        assert!(webhook::verify_stripe(&SECRET, b"body", no_tag, 0, Duration::MAX).is_err());
         password_hash::verify(text, &SECRET, 3).unwrap();
         assert!(password_hash::verify(text, &SECRET[1..], 3).is_err());
         let mut out = [0; password_hash::MAX_TEXT_LEN];

@@ -17,7 +17,7 @@ if (Number(found.split(".")[0]) < least) {
 try {
     accessSync(folder, constants.W_OK);
 } catch {
-    console.error(`yezdopin.wasm is to be made in ${folder}, which can't be written: take what ` +
+    console.error(`The modules are to be made in ${folder}, which can't be written: take what ` +
         "`make OUT=/a/folder dist-npm` makes");
     process.exit(1);
 }

@@ -13,8 +13,10 @@ import { merkle } from "./merkle.js";
 import { otp } from "./otp.js";
 import { passwordHash } from "./passwords.js";
 import { subtle } from "./subtle.js";
+import { tls13 } from "./tls13.js";
+import { webhook } from "./webhook.js";
 
-export { jws, merkle, otp, passwordHash, subtle };
+export { jws, merkle, otp, passwordHash, subtle, tls13, webhook };
 export const webcrypto = { subtle };
 
 // Calls back once, with an error or an answer, on another turn of the loop, so that what a callback
@@ -43,8 +45,10 @@ export function hash(algorithm, input, outputEncoding = "hex") {
 }
 
 export function digestEach(algorithm, messages) {
-  const n = digestOf(algorithm);
-  return Array.from(messages, (it) => calls.digest(n, bytesOrText(it, "messages")));
+  const n = digestOf(algorithm), read = (it) => bytesOrText(it, "messages");
+  // Of an array alone is nothing run between two messages, such as what writes over the last one.
+  if (Array.isArray(messages)) return calls.digestEach(n, Array.from(messages, read));
+  return Array.from(messages, (it) => calls.digest(n, read(it)));
 }
 
 export function hmac(algorithm, key, message) {

@@ -1,6 +1,6 @@
 // SPDX-License-Identifier: ISC
 import type { Algorithm, Api, Encoding, HmacAlgorithm, Input, Jws, Merkle, Otp, PasswordHash,
-  Running, Subtle } from "./types.js";
+  Running, Subtle, Tls13, Webhook } from "./types.js";
 export * from "./types.js";
 
 type It = Api<Uint8Array, Input, Encoding>;
@@ -28,10 +28,12 @@ export const merkle: Merkle<Uint8Array>;
 export const otp: Otp<Input>;
 export const passwordHash: PasswordHash;
 export const subtle: Subtle;
+export const tls13: Tls13<Uint8Array, Input>;
+export const webhook: Webhook<Input>;
 export const webcrypto: { subtle: Subtle };
 declare const all: It & {
   createHash: typeof createHash; createHmac: typeof createHmac; jws: typeof jws;
   merkle: typeof merkle; otp: typeof otp; passwordHash: PasswordHash; subtle: Subtle;
-  webcrypto: { subtle: Subtle };
+  tls13: typeof tls13; webcrypto: { subtle: Subtle }; webhook: typeof webhook;
 };
 export default all;

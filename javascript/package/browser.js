@@ -1,12 +1,15 @@
 // SPDX-License-Identifier: ISC
-// For browsers: fetches and compiles the module that lies beside this file.
+// For browsers: fetches and compiles one of the modules that lie beside this file.
 
 import * as api from "./api.js";
 import { start } from "./calls.js";
 import { host } from "./inputs.js";
 import { Running } from "./running.js";
+import { hasVectors } from "./simd.js";
 
-const url = new URL("./yezdopin.wasm", import.meta.url);
+// Bundlers find each file by such a call.
+const url = hasVectors() ? new URL("./yezdopin_simd.wasm", import.meta.url)
+  : new URL("./yezdopin.wasm", import.meta.url);
 
 async function compiled() {
   const response = await fetch(url);

@@ -231,6 +231,36 @@ export function digest(n, message) {
   });
 }
 
+// How many messages a module with vectors runs side by side, and how many are in one call at most.
+const LANES = 4, MOST_TOGETHER = 16;
+// A message is passed by its place and its length.
+const MESSAGE_LEN = 2 * SIZE_LEN;
+
+// The digests of some messages, none longer than a piece.
+const digestTogether = (n, messages) => run(() => {
+  const list = room(MESSAGE_LEN * messages.length), len = outputLen(n);
+  const places = messages.map(copied), view = new DataView(memory.buffer);
+  for (const [i, it] of messages.entries()) {
+    view.setBigUint64(list + MESSAGE_LEN * i, places[i], true);
+    view.setBigUint64(list + MESSAGE_LEN * i + SIZE_LEN, lenOf(it), true);
+  }
+  const all = output(len * messages.length, (out, outLen) =>
+    exports.yz_digest_each(n, BigInt(list), BigInt(messages.length), out, outLen));
+  return messages.map((_, i) => host.copy(all, len * i, len * i + len));
+});
+
+/** The digests of messages. Only the module with vectors has a call for several. */
+export function digestEach(n, messages) {
+  const answers = [], hasLanes = exports.yz_digest_each !== undefined;
+  for (let at = 0; at < messages.length; at += MOST_TOGETHER) {
+    const some = messages.slice(at, at + MOST_TOGETHER);
+    const isTogether =
+      hasLanes && some.length >= LANES && some.every((it) => it.length <= PIECE_LEN);
+    answers.push(...isTogether ? digestTogether(n, some) : some.map((it) => digest(n, it)));
+  }
+  return answers;
+}
+
 const emptyContexts = [];
 
 /** The bytes of a context that stands for the empty message: no secret, the same at each call, and
@@ -510,6 +540,43 @@ export function totpFind(n, value, time, step, back, ahead, digits, text) {
     const one = copied(value), other = copied(text);
     return found((counter) => exports.yz_totp_find(n, one, lenOf(value), time, step, back, ahead,
       BigInt(digits), other, lenOf(text), counter));
+  });
+}
+
+export function webhookVerifyHex(n, prefix, secret, body, header) {
+  return run(() => verdict(exports.yz_webhook_verify_hex(n, copied(secret), lenOf(secret),
+    copied(prefix), lenOf(prefix), copied(body), lenOf(body), copied(header), lenOf(header))));
+}
+
+export function webhookVerifyGithub(secret, body, header) {
+  return run(() => verdict(exports.yz_webhook_verify_github(copied(secret), lenOf(secret),
+    copied(body), lenOf(body), copied(header), lenOf(header))));
+}
+
+export function webhookVerifyStripe(secret, body, header, now, tolerance) {
+  return run(() => verdict(exports.yz_webhook_verify_stripe(copied(secret), lenOf(secret),
+    copied(body), lenOf(body), copied(header), lenOf(header), now, tolerance)));
+}
+
+export function tls13Finished(n, baseKey, transcriptHash) {
+  return run(() => {
+    const one = copied(baseKey), other = copied(transcriptHash);
+    return output(outputLen(n), (out, len) => exports.yz_tls13_finished(
+      n, one, lenOf(baseKey), other, lenOf(transcriptHash), out, len));
+  });
+}
+
+export function tls13FinishedVerify(n, baseKey, transcriptHash, verifyData) {
+  return run(() => verdict(exports.yz_tls13_finished_verify(n, copied(baseKey), lenOf(baseKey),
+    copied(transcriptHash), lenOf(transcriptHash), copied(verifyData), lenOf(verifyData))));
+}
+
+/** The base key of a PSK's binders, of a PSK from elsewhere or of a ticket's. */
+export function tls13BinderKey(n, psk, isExternal) {
+  return run(() => {
+    const at = copied(psk);
+    return output(outputLen(n), (out, len) =>
+      exports.yz_tls13_binder_key(n, at, lenOf(psk), isExternal ? 1 : 0, out, len));
   });
 }
 

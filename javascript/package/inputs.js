@@ -164,6 +164,13 @@ export function uint64Of(value, argument) {
   return whole === BigInt.asUintN(64, whole) ? whole : null;
 }
 
+/** The same, or the error of a number that is none of these. */
+export function uint64From(value, argument) {
+  const number = uint64Of(value, argument);
+  if (number === null) throw outOfRange(argument, ">= 0 && < 2 ** 64", value);
+  return number;
+}
+
 export const lengthOf = (value, argument) => wholeOf(value, argument, 0, MAX_INT32);
 export const iterationsOf = (value) => wholeOf(value, "iterations", 1, MAX_INT32);
 

@@ -3,7 +3,7 @@
 import type { KeyObject } from "node:crypto";
 import { Transform, type TransformOptions } from "node:stream";
 import type { Algorithm, Api, HmacAlgorithm, Input, Jws, Merkle, Otp, PasswordHash, Running,
-  Subtle } from "./types.js";
+  Subtle, Tls13, Webhook } from "./types.js";
 export * from "./types.js";
 
 type Secret = Input | KeyObject;
@@ -48,10 +48,13 @@ export const merkle: Merkle<Buffer>;
 export const otp: Otp<Secret>;
 export const passwordHash: PasswordHash;
 export const subtle: Subtle;
+export const tls13: Tls13<Buffer, Secret>;
+export const webhook: Webhook<Secret>;
 export const webcrypto: { subtle: Subtle };
 declare const all: It & {
   Hash: typeof Hash; Hmac: typeof Hmac; createHash: typeof createHash;
   createHmac: typeof createHmac; jws: typeof jws; merkle: typeof merkle; otp: typeof otp;
-  passwordHash: PasswordHash; subtle: Subtle; webcrypto: { subtle: Subtle };
+  passwordHash: PasswordHash; subtle: Subtle; tls13: typeof tls13; webcrypto: { subtle: Subtle };
+  webhook: typeof webhook;
 };
 export default all;

@@ -1,6 +1,6 @@
 // SPDX-License-Identifier: ISC
-// For Node: compiles the module that lies beside this file, and gives it the shape of node:crypto:
-// Buffers, streams, encodings and KeyObjects.
+// For Node: compiles one of the modules that lie beside this file, and gives it the shape of
+// node:crypto: Buffers, streams, encodings and KeyObjects.
 
 import { AsyncResource } from "node:async_hooks";
 import { readFileSync } from "node:fs";
@@ -11,9 +11,11 @@ import { start } from "./calls.js";
 import { unknownEncoding, wrongKeyObject, wrongValue } from "./errors.js";
 import { host } from "./inputs.js";
 import { Running } from "./running.js";
+import { hasVectors } from "./simd.js";
 
 const file = (name) => new URL(name, import.meta.url);
-start(new WebAssembly.Module(readFileSync(file("./yezdopin.wasm"))));
+const name = hasVectors() ? "./yezdopin_simd.wasm" : "./yezdopin.wasm";
+start(new WebAssembly.Module(readFileSync(file(name))));
 
 // The class of Buffers. Its constructor copies in two thirds of the time of `Buffer.alloc` and
 // `set`, and not to the pool that Buffers share.

@@ -2,8 +2,8 @@
 // One-time passwords: HOTP (RFC 4226), and TOTP (RFC 6238).
 
 import * as calls from "./calls.js";
-import { emptyKey, outOfRange, shortKey } from "./errors.js";
-import { bytesOrText, keyOf, macOf, uint64Of, wholeOf } from "./inputs.js";
+import { emptyKey, shortKey } from "./errors.js";
+import { bytesOrText, keyOf, macOf, uint64From, wholeOf } from "./inputs.js";
 
 const DIGITS = 6;
 const STEP = 30;
@@ -23,38 +23,32 @@ function keyWords(algorithm, key, allowShortKey) {
 const digitsOf = (digits) => wholeOf(digits, "digits", 6, 8);
 const stepOf = (step) => wholeOf(step, "step", 1, MAX_UINT32);
 
-// A counter, a count of them, or a time.
-function numberOf(value, argument) {
-  const number = uint64Of(value, argument);
-  if (number === null) throw outOfRange(argument, ">= 0 && < 2 ** 64", value);
-  return number;
-}
-
 // A password as text.
 const textOf = (bytes) => String.fromCharCode(...bytes);
 
 export const otp = Object.freeze({
   hotp(algorithm, key, counter, { digits = DIGITS, allowShortKey = false } = {}) {
-    const words = [...keyWords(algorithm, key, allowShortKey), numberOf(counter, "counter"),
+    const words = [...keyWords(algorithm, key, allowShortKey), uint64From(counter, "counter"),
       digitsOf(digits)];
     return textOf(calls.hotp(...words));
   },
 
   totp(algorithm, key, time, { step = STEP, digits = DIGITS, allowShortKey = false } = {}) {
-    const words = [...keyWords(algorithm, key, allowShortKey), numberOf(time, "time"),
+    const words = [...keyWords(algorithm, key, allowShortKey), uint64From(time, "time"),
       stepOf(step), digitsOf(digits)];
     return textOf(calls.totp(...words));
   },
 
   findHotp(algorithm, key, text, { first, count, digits = DIGITS, allowShortKey = false }) {
-    return calls.hotpFind(...keyWords(algorithm, key, allowShortKey), numberOf(first, "first"),
-      numberOf(count, "count"), digitsOf(digits), bytesOrText(text, "text"));
+    return calls.hotpFind(...keyWords(algorithm, key, allowShortKey), uint64From(first, "first"),
+      uint64From(count, "count"), digitsOf(digits), bytesOrText(text, "text"));
   },
 
   findTotp(algorithm, key, text, {
     time, step = STEP, back = 1, ahead = 1, digits = DIGITS, allowShortKey = false,
   }) {
-    return calls.totpFind(...keyWords(algorithm, key, allowShortKey), numberOf(time, "time"), stepOf(step),
+    return calls.totpFind(...keyWords(algorithm, key, allowShortKey), uint64From(time, "time"),
+      stepOf(step),
       wholeOf(back, "back", 0, MAX_UINT32), wholeOf(ahead, "ahead", 0, MAX_UINT32),
       digitsOf(digits), bytesOrText(text, "text"));
   },

@@ -183,6 +183,48 @@ export interface Otp<K> {
   findTotp(algorithm: HmacAlgorithm, key: K, text: Input, window: TotpWindow): bigint | null;
 }
 
+/** A header of a request: null and undefined where it has none. Several values are joined by a comma
+ * and a blank, as Node joins them. */
+export type WebhookHeader = Input | readonly string[] | null | undefined;
+/** What stands before the hex digits: nothing where it is left out. */
+export interface HexPrefix { prefix?: Input }
+/** The seconds that a header may be old, 300 where it is left out, and the time in seconds since
+ * 1970, which is that of `Date.now()` where it is left out. */
+export interface StripeTime { tolerance?: Count; now?: Count }
+/**
+ * The headers with which GitHub, Stripe and others sign what they send to a webhook. A body is the
+ * bytes of the request, before anything reads them as JSON. False for a header that is missing, for
+ * any other that is not the body's, and for an empty secret, under which everybody can sign.
+ */
+export interface Webhook<K> {
+  /** Whether the header is `prefix` and behind it the tag of the body in hex digits, in lower
+   * case. */
+  verifyHex(algorithm: HmacAlgorithm, secret: K, body: Input, header: WebhookHeader,
+    options?: HexPrefix): boolean;
+  /** Whether the header is what GitHub sends as `X-Hub-Signature-256`. */
+  verifyGithub(secret: K, body: Input, header: WebhookHeader): boolean;
+  /** Whether the header is what Stripe sends as `Stripe-Signature`, signed within the tolerance. The
+   * secret is the endpoint's, with its `whsec_`. It may be sent again: keep the ids of events. */
+  verifyStripe(secret: K, body: Input, header: WebhookHeader, options?: StripeTime): boolean;
+}
+
+/** Whether a PSK is one that the parties have from elsewhere, or else of a ticket. */
+export interface PskKind { isExternal: boolean }
+/**
+ * The Finished messages and PSK binders of TLS 1.3 (RFC 8446, 4.4.4 and 4.2.11.2). A base key is a
+ * traffic secret, or for a binder the binder key. It and the hash of the transcript have as many
+ * bytes as a digest, or a RangeError is thrown.
+ */
+export interface Tls13<B, K> {
+  /** The verify_data of a Finished, or a binder. */
+  finished(algorithm: HmacAlgorithm, baseKey: Bytes, transcriptHash: Bytes): B;
+  /** Whether the other party's `verifyData` is what `finished` gives, each byte read. */
+  verifyFinished(algorithm: HmacAlgorithm, baseKey: Bytes, transcriptHash: Bytes,
+    verifyData: Bytes): boolean;
+  /** The base key of the binders of a PSK. Throws a RangeError where that is empty. */
+  binderKey(algorithm: HmacAlgorithm, psk: K, options: PskKind): B;
+}
+
 /** A key of `subtle.importKey`, which is for this package's `subtle` alone. */
 export interface Key {
   readonly type: "secret";

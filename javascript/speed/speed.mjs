@@ -5,7 +5,7 @@
 const TURNS = 200, TURN_MS = 3, ROW_MS = 6000;
 const WARM_UP = 5000;
 const LENS = [16, 64, 1024, 65536];
-const ITERATIONS = 1000;
+const ITERATIONS = 1000, OUTPUT_LENS = { sha1: 20, sha256: 32, sha512: 64 };
 
 async function timed(it, times) {
   const begun = performance.now();
@@ -61,12 +61,22 @@ export async function times(parties) {
         (it) => it.digest(name, input));
     }
   }
-  for (const name of ["sha256", "sha512"]) {
+  for (const name of ["sha1", "sha256", "sha512"]) {
+    for (const [count, len] of [[4, 64], [8, 64], [4, 1024], [8, 1024]]) {
+      const them = Array.from({ length: count }, (_, i) => message.subarray(i, i + len));
+      await add(`${count} digests by ${name}, ${len} bytes each`, "each", us,
+        (it) => it.each(name, them));
+    }
+  }
+  for (const name of ["sha1", "sha256", "sha512"]) {
     for (const it of Object.values(parties)) it.key = await it.ready?.(name, key) ?? key;
     await add(`hmac-${name} of 64 bytes`, "hmac", us, (it) => it.hmac(name, it.key, short));
     await add(`${name} in two pieces of 64 bytes`, "pieces", us, (it) => it.pieces(name, short));
-    await add(`pbkdf2-${name}, ${ITERATIONS} iterations`, "pbkdf2", us,
-      (it) => it.pbkdf2(name, key, message.subarray(0, 16), ITERATIONS, 32));
+    const len = OUTPUT_LENS[name], salt = message.subarray(0, 16);
+    for (const count of [1, 4]) {
+      await add(`pbkdf2-${name}, ${ITERATIONS} iterations, ${count * len} bytes`, "pbkdf2", us,
+        (it) => it.pbkdf2(name, key, salt, ITERATIONS, count * len));
+    }
   }
   return rows;
 }
@@ -80,6 +90,7 @@ export function table([head, ...rows]) {
 /** The package. */
 export const party = (yz) => ({
   digest: yz.digest,
+  each: yz.digestEach,
   hmac: yz.hmac,
   pieces: (name, it) => yz.createHash(name).update(it).update(it).digest(),
   pbkdf2: (name, password, salt, iterations, len) =>

@@ -12,6 +12,7 @@ import { pipeline } from "node:stream/promises";
 import { pathToFileURL } from "node:url";
 import { promisify } from "node:util";
 
+await import("./engine.cjs");
 const yz = await import(pathToFileURL(`${process.env.PACKAGE}/node.js`).href);
 const here = new URL(import.meta.url);
 const bytes = Buffer.from("00ff10abc3a9e282ac", "hex"), key = Buffer.alloc(32, 7);

@@ -11,8 +11,9 @@ globalThis.TextEncoder ??= class {
 
 try {
   // As browser.js has them.
-  const { $api, $calls, $running: { Running } } = await import(`${folder}/core.js`);
-  $calls.start(new WebAssembly.Module(readFile(`${folder}/yezdopin.wasm`, "binary")));
+  const { $api, $calls, $running: { Running }, $simd } = await import(`${folder}/core.js`);
+  const name = $simd.hasVectors() ? "yezdopin_simd" : "yezdopin";
+  $calls.start(new WebAssembly.Module(readFile(`${folder}/${name}.wasm`, "binary")));
   const yz = { ...$api, createHash: Running.ofDigest, createHmac: Running.ofTag };
   const { FILES, run } = await import("./vectors.mjs");
   const texts = FILES.map((it) => readFile(`${vectors}/${it}.txt`));

@@ -1,11 +1,14 @@
 // SPDX-License-Identifier: ISC
-// node lowered.mjs MODULE64 MODULE32 [TURNS]: both modules side by side, by calls at random, on
-// garbage too. After each call the answers and the whole memories must be the same. It ends with
-// status 1 where they aren't.
+// node lowered.mjs [--callers] MODULE64 MODULE32 [TURNS]: both modules side by side, by calls at
+// random, on garbage too. After each call the answers and the whole memories must be the same, or
+// with --callers, of modules that are compiled otherwise, the memories of callers, past the stack
+// and the constants. It ends with status 1 where they aren't.
 
+import { createHmac } from "node:crypto";
 import { readFileSync } from "node:fs";
 
-const [, , file64, file32, turns = "20000"] = process.argv;
+const words = process.argv.slice(2), isOfCallers = words[0] === "--callers";
+const [file64, file32, turns = "20000"] = isOfCallers ? words.slice(1) : words;
 const both = [file64, file32].map((file) =>
   new WebAssembly.Instance(new WebAssembly.Module(readFileSync(file))).exports);
 const memories = both.map((it) => new Uint8Array(it.memory.buffer));
@@ -16,14 +19,18 @@ function below(bound) {
   return Math.floor(seed / 2 ** 32 * bound);
 }
 
-// Places past the constants: three of inputs, one of outputs, two of contexts, two of keys.
-const BASE = Math.ceil(Number(both[0].__heap_base.value) / 64) * 64;
+// Places past the constants: three of inputs, one of outputs, two of contexts, two of keys, and one
+// each of numbers and of a header.
+const BASE = Math.max(
+  ...both.map((it) => Math.ceil(Number(it.__heap_base?.value ?? 0) / 64) * 64));
 const INPUTS = [BASE, BASE + 1024, BASE + 2048];
 const OUTPUT = BASE + 4096;
 const CONTEXTS = [BASE + 8192, BASE + 8200];
 const KEYS = [BASE + 9216, BASE + 9224];
 const TEXT_LEN = BASE + 10240;
-const END = BASE + 12288;
+const HEADER = BASE + 10752;
+const LIST = BASE + 12288;
+const END = BASE + 12544;
 
 const oneOf = (list) => list[below(list.length)];
 const input = () => [BigInt(oneOf(INPUTS) + below(8)), BigInt(below(below(2) ? 700 : 70))];
@@ -49,12 +56,40 @@ const signed = () => below(4) === 0 ? input() : [BigInt(OUTPUT),
   BigInt.asUintN(10, new DataView(both[0].memory.buffer).getBigUint64(TEXT_LEN + 40, true))];
 const digits = () => [BigInt(OUTPUT), BigInt(5 + below(5))];
 const password = () => below(4) === 0 ? input() : digits();
+// As many bytes as a digest has.
+const digest = (n) =>
+  [BigInt(oneOf(INPUTS) + below(8)), below(20) ? both[0].yz_output_len(n) : BigInt(below(80))];
+const bytesAt = ([place, len]) => memories[0].slice(Number(place), Number(place + len));
+// A header that is written to both memories: the right one of a secret and a body under SHA-256, and
+// one time in four another.
+function header(front, secret, before, body) {
+  const tag = createHmac("sha256", bytesAt(secret)).update(before).update(bytesAt(body))
+    .digest("hex");
+  const text = Buffer.concat([Buffer.from(front), Buffer.from(tag)]);
+  if (below(4) === 0) text[below(text.length)] ^= 1 << below(8);
+  for (const it of memories) it.set(text, HEADER);
+  return [BigInt(HEADER), BigInt(text.length)];
+}
 // The arguments of a call with so many inputs, an algorithm before them and an output behind.
 const withInputs = (count) => (n = algorithm()) =>
   [n, ...Array.from({ length: count }, input).flat(), ...output(n)];
 
+// Messages in a list, which is written before the call.
+function messages(n) {
+  const count = below(17), len = BigInt(count) * both[0].yz_output_len(n);
+  for (let i = 0; i < 2 * count; i += 2) {
+    const parts = below(3) ? input() : [BigInt(INPUTS[0]), 700n];
+    for (const it of memories) {
+      const view = new DataView(it.buffer);
+      parts.forEach((word, j) => view.setBigUint64(LIST + 8 * (i + j), word, true));
+    }
+  }
+  return [BigInt(LIST), BigInt(count), BigInt(OUTPUT), below(9) ? len : len + 1n];
+}
+
 const CALLS = {
   yz_digest: withInputs(1),
+  yz_digest_each: (n = algorithm()) => [n, ...messages(n)],
   yz_digest_init: () => [algorithm(), context()],
   yz_digest_update: () => [context(), ...input()],
   yz_digest_final: () => [context(), ...output(algorithm())],
@@ -98,6 +133,34 @@ const CALLS = {
     BigInt(5 + below(5)), ...password(), BigInt(TEXT_LEN + 56)],
   yz_totp_find: () => [algorithm(), ...keyOfTokens(), number(), below(60), below(4), below(4),
     BigInt(5 + below(5)), ...password(), BigInt(TEXT_LEN + 56)],
+  yz_webhook_verify_hex: () => {
+    const n = oneOf([2, algorithm()]), secret = input(), body = input(), prefix = input();
+    return [n, ...secret, ...prefix, ...body, ...header(bytesAt(prefix), secret, "", body)];
+  },
+  yz_webhook_verify_github: () => {
+    const secret = input(), body = input();
+    return [...secret, ...body, ...header("sha256=", secret, "", body)];
+  },
+  yz_webhook_verify_stripe: () => {
+    const secret = input(), body = input(), time = number();
+    const text = header(`t=${time},v1=`, secret, `${time}.`, body);
+    return [...secret, ...body, ...text, time + BigInt(below(3)), BigInt(below(3))];
+  },
+  yz_tls13_finished: () => {
+    const n = algorithm();
+    return [n, ...digest(n), ...digest(n), ...output(n)];
+  },
+  // Mostly over what yz_tls13_finished writes.
+  yz_tls13_finished_verify: () => {
+    const n = algorithm(), words = [n, ...digest(n), ...digest(n)];
+    const data = [BigInt(OUTPUT), both[0].yz_output_len(n)];
+    if (below(4)) both.forEach((it) => it.yz_tls13_finished(...words, ...data));
+    return [...words, ...data];
+  },
+  yz_tls13_binder_key: () => {
+    const n = algorithm();
+    return [n, ...input(), below(2), ...output(n)];
+  },
   yz_equal: () => {
     const [at, len] = input();
     return [at, len, BigInt(oneOf(INPUTS)), below(4) ? len : len + 1n];
@@ -111,12 +174,20 @@ function fail(what) {
   process.exit(1);
 }
 
+// Only the module with vectors has the call.
+if (both[1].yz_digest_each === undefined) delete CALLS.yz_digest_each;
+
+const compared = isOfCallers ? memories.map((it) => it.subarray(BASE)) : memories;
+const isSame = () => Buffer.compare(...compared) === 0;
+
 // The same exports, of those that the lowered one kept, which are all that are tried.
 const kept = Object.keys(both[1]).sort().join();
 const tried = [...Object.keys(CALLS), "__heap_base", "memory"].sort().join();
 if (kept !== tried) fail(`exports ${kept} in place of ${tried}`);
-if (both[0].__heap_base.value !== both[1].__heap_base.value) fail("where the constants end");
-if (Buffer.compare(...memories)) fail("the memories before any call");
+if (!isOfCallers && both[0].__heap_base.value !== both[1].__heap_base.value) {
+  fail("where the constants end");
+}
+if (!isSame()) fail("the memories before any call");
 
 const names = Object.keys(CALLS), answers = new Map();
 for (let turn = 0; turn < Number(turns); turn++) {
@@ -128,10 +199,10 @@ for (let turn = 0; turn < Number(turns); turn++) {
     const words = [1 + turn % 5, 0, 0, 0, turn % 64, 0, 0, 0];
     for (const it of memories) for (const at of [...CONTEXTS, ...KEYS]) it.set(words, at);
   }
-  const name = oneOf(names), words = CALLS[name]();
-  const [one, other] = both.map((it) => it[name](...words));
-  if (one !== other) fail(`${name}(${words}) answers ${one} and ${other}`);
-  if (Buffer.compare(...memories)) fail(`${name}(${words}) leaves other memories`);
+  const name = oneOf(names), given = CALLS[name]();
+  const [one, other] = both.map((it) => it[name](...given));
+  if (one !== other) fail(`${name}(${given}) answers ${one} and ${other}`);
+  if (!isSame()) fail(`${name}(${given}) leaves other memories`);
   const kind = name.endsWith("_len") || name === "yz_version" ? "a number" : `status ${one}`;
   answers.set(kind, (answers.get(kind) ?? 0) + 1);
 }

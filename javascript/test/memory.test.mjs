@@ -5,15 +5,13 @@
 import assert from "node:assert/strict";
 import crypto from "node:crypto";
 import { once } from "node:events";
-import { readFileSync } from "node:fs";
 import { test } from "node:test";
 import { Worker } from "node:worker_threads";
 import {
-  AS_NEW, Instance, SHA256_OF_ABC, TAGS, instances, isWiped, main, memoryNow, theirs, yz,
+  AS_NEW, Instance, SHA256_OF_ABC, TAGS, instances, isWiped, main, memoryNow, moduleBytes, theirs,
+  yz,
 } from "./package.mjs";
 import { hex } from "./vectors.mjs";
-
-const { PACKAGE } = process.env;
 
 test("no call leaves a byte in the module's memory", () => {
   const running = yz.createHash("sha512"), tagged = yz.createHmac("sha512", "a key");
@@ -54,7 +52,7 @@ test("no call leaves a byte in the module's memory", () => {
 });
 
 test("the module itself leaves secrets on its stack, and that test would see them", () => {
-  const module = new WebAssembly.Module(readFileSync(`${PACKAGE}/yezdopin.wasm`));
+  const module = new WebAssembly.Module(moduleBytes);
   const end = 64 * 1024, text = "pbkdf2_sha256$1$salt$AAAAAAAAAAAAAAAAAAAAAAAAAAAAAAAAAAAAAAAAAAA=";
   // How many bytes of the stack a call uses, which is passed a place for what it reads and writes.
   function used(call) {
@@ -77,8 +75,19 @@ test("the module itself leaves secrets on its stack, and that test would see the
   });
   const found = used((exports, at) => assert.equal(
     exports.yz_totp_find(4, at, 72n, 90n, 30, 1, 1, 6n, at, 6n, at + 504n), 8));
-  console.log(`${derive}, ${verify}, ${made}, ${token} and ${found} bytes of the stack`);
-  for (const it of [derive, token, found]) assert.ok(it > 0 && it <= 8 * 1024);
+  const stripe = used((exports, at) => {
+    new Uint8Array(exports.memory.buffer).set(Buffer.from("t=5,v1=a"), Number(at));
+    assert.equal(exports.yz_webhook_verify_stripe(at, 8n, at, 300n, at, 8n, 5n, 5n), 8);
+  });
+  const finished = used((exports, at) => assert.equal(
+    exports.yz_tls13_finished_verify(4, at, 64n, at, 64n, at, 64n), 8));
+  const binder = used((exports, at) => assert.equal(
+    exports.yz_tls13_binder_key(4, at, 72n, 1, at + 512n, 64n), 0));
+  const all = [derive, verify, made, token, found, stripe, finished, binder];
+  console.log(`${all.join(", ")} bytes of the stack`);
+  for (const it of [derive, token, found, stripe, finished, binder]) {
+    assert.ok(it > 0 && it <= 8 * 1024);
+  }
   for (const it of [verify, made]) assert.ok(it > 0 && it <= 20 * 1024);
 });
 
@@ -89,7 +98,7 @@ test("a worker wipes the words of a call, also of one that is refused", async (t
     worker.postMessage(message);
     return (await once(worker, "message"))[0];
   };
-  await answerTo({ module: new WebAssembly.Module(readFileSync(`${PACKAGE}/yezdopin.wasm`)) });
+  await answerTo({ module: new WebAssembly.Module(moduleBytes) });
   // Of memory that both threads have.
   const shared = (len) => new Uint8Array(new SharedArrayBuffer(len)).fill(0xaa);
   for (const algorithm of [2, 99]) {

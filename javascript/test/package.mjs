@@ -5,6 +5,7 @@
 import crypto from "node:crypto";
 import { readFileSync, readdirSync } from "node:fs";
 import { pathToFileURL } from "node:url";
+import "./engine.cjs";
 
 const { PACKAGE, VECTORS } = process.env;
 // The instances of the module, which the package keeps to itself.
@@ -16,6 +17,9 @@ WebAssembly.Instance = class extends Instance {
     instances.push(this.exports);
   }
 };
+// The module that the package takes.
+const { MODULE = "yezdopin_simd" } = process.env;
+export const moduleBytes = readFileSync(`${PACKAGE}/${MODULE}.wasm`);
 export const main = pathToFileURL(`${PACKAGE}/node.js`).href;
 export const yz = await import(main);
 

@@ -374,7 +374,7 @@ test("the page's login, over a table of several schemes", async () => {
     for (const it of kept) assert.equal(await logIn(it, "pw", others), true);
   }
   const costly = made("phc-sha256", 10).replace("i=10,", "i=4294967295,");
-  for (const row of ["", "!", "x".repeat(5000), costly]) {
+  for (const row of [null, undefined, "", "!", "x".repeat(5000), costly]) {
     assert.equal(await logIn(row, "pw", others), false);
   }
 });

@@ -18,6 +18,7 @@ const fs = require("fs");
 const Module = require("module");
 const path = require("path");
 
+require("./engine.cjs");
 const yz = require(path.join(process.env.PACKAGE, "node.js"));
 const test = path.resolve(process.argv[2]);
 // PBKDF2 of more iterations than these is not waited for: the test wants it to begin at most.

@@ -6,10 +6,9 @@
 
 import assert from "node:assert/strict";
 import crypto from "node:crypto";
-import { readFileSync } from "node:fs";
 import { createRequire } from "node:module";
 import { test } from "node:test";
-import { TAGS, isWiped, linesOf, unhex, yz } from "./package.mjs";
+import { TAGS, isWiped, linesOf, moduleBytes, unhex, yz } from "./package.mjs";
 import { hex } from "./vectors.mjs";
 
 const { PACKAGE } = process.env, { jws, otp } = yz;
@@ -392,7 +391,7 @@ test("no call leaves a byte in the module's memory", () => {
 // The last, since it makes another instance of the module.
 test("the same as browsers have it: answers are Uint8Arrays", async () => {
   const { $api, $calls } = await import(`${PACKAGE}/core.js`);
-  $calls.start(new WebAssembly.Module(readFileSync(`${PACKAGE}/yezdopin.wasm`)));
+  $calls.start(new WebAssembly.Module(moduleBytes));
   const key = random(32), payload = random(50), token = $api.jws.sign("HS256", key, payload);
   const leaves = ["a", "b", "c"].map($api.merkle.leaf), read = $api.jws.verify("HS256", key, token);
   assert.equal(token, jws.sign("HS256", key, payload));

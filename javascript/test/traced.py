@@ -14,10 +14,10 @@ import sys
 
 sys.path.insert(0, str(pathlib.Path(__file__).resolve().parents[2] / "generated/make"))
 from lower import (  # noqa: E402
-    BLOCK, BRANCH_IF, BRANCH_TABLE, CALL, CODE, COPY, DATA, ELSE, END, EXPORTS, FILL, FUNCTIONS,
-    GET, GLOBALS, I32, I32_CONST, I64, IF, KIND_FUNCTION, KIND_MEMORY, LOADS, MAGIC, MANY,
-    MEMORY, NO_RESULT, OF_TEXTS, OF_TEXTS_PLAIN, PLAIN, SELECT, SET, STORED, STORES, TYPES, Body,
-    Reader, lowered, number, op, param_counts, sections, sized, vector,
+    BLOCK, BRANCH_IF, BRANCH_TABLE, CALL, CODE, COPY, DATA, DROP, ELSE, END, EXPORTS, FILL,
+    FUNCTIONS, GET, GLOBALS, I32, I32_CONST, I64, IF, KIND_FUNCTION, KIND_MEMORY, MAGIC, MANY,
+    MEMORY, NO_RESULT, OF_TEXTS, OF_TEXTS_PLAIN, PLAIN, SELECT, SET, TYPES, VECTOR, WITH_VECTORS,
+    Body, Reader, lowered, number, op, param_counts, sections, sized, vector,
 )
 
 IMPORTS, TELL, TELL_LONG = 2, op(CALL, 0), op(CALL, 1)
@@ -29,13 +29,10 @@ OF_NUMBERS, LONG = OF_TEXTS_PLAIN - PLAIN, 0x7E
 class ToldBody(Body):
     """A body that tells."""
 
+    ADDRESS = TELL
+
     def instruction(self, code):
-        if code in LOADS:
-            self.out += TELL + self.offset(code, LOADS[code])
-        elif code in STORES:
-            value = self.above[STORED[code]]
-            self.out += op(SET, value) + TELL + op(GET, value) + self.offset(code, STORES[code])
-        elif code in OF_NUMBERS:
+        if code in OF_NUMBERS:
             tell, last = (TELL_LONG, I64) if code >= LONG else (TELL, I32)
             self.out += op(SET, self.above[last]) + tell + op(GET, self.above[last]) + tell
             self.out += op(code)
@@ -44,13 +41,6 @@ class ToldBody(Body):
         else:
             self.out += TELL if code in (BRANCH_IF, BRANCH_TABLE, IF, SELECT) else b""
             super().instruction(code)
-
-    def many(self, code):
-        between = self.above[I32]
-        self.code.take({COPY: 2, FILL: 1}[code])
-        self.out += TELL + op(SET, self.length) + (TELL if code == COPY else b"")
-        self.out += op(SET, between) + TELL + op(GET, between) + op(GET, self.length)
-        self.out += op(MANY, code) + bytes({COPY: 2, FILL: 1}[code])
 
 
 def with_more(content, more):
@@ -73,10 +63,10 @@ def moved_exports(content):
 def traced(data):
     """The module that tells."""
     found = sections(data)
-    counts = param_counts(found[TYPES], found[FUNCTIONS])
+    counts = param_counts(found[TYPES], found[FUNCTIONS], WITH_VECTORS)
     bodies = Reader(found[CODE])
     found[CODE] = vector([
-        sized(ToldBody(bodies.name(), counts[index], OF_TEXTS_PLAIN).bytes())
+        sized(ToldBody(bodies.name(), counts[index], OF_TEXTS_PLAIN, WITH_VECTORS).bytes())
         for index in bodies.counted()
     ])
     found[EXPORTS] = moved_exports(found[EXPORTS])
@@ -96,10 +86,15 @@ ADD32, MULTIPLY, DIVIDE, REMAIN, DIVIDE_LONG, CUT = 0x6A, 0x6C, 0x6E, 0x70, 0x80
 ONE, TWO = op(I32_CONST) + b"\1", op(I32_CONST) + b"\2"
 FIRST, SECOND = (op(GET, it) + op(LOAD_BYTE, 0, 0) for it in (0, 1))
 BIT = FIRST + ONE + op(AND)
+ZEROS = op(VECTOR, 0x0C) + bytes(16)
 PLACE = op(GET, 1) + FIRST + op(EXTEND) + op(ADD)
 BEGIN = op(BLOCK, NO_RESULT)
 PLANTED = {
     "load": PLACE + op(LOAD_BYTE, 0, 0),
+    "vector's load": PLACE + op(VECTOR, 0, 0, 0) + op(DROP) + ONE,
+    "vector's store": PLACE + ZEROS + op(VECTOR, 0x0B, 0, 0) + ONE,
+    "lane's load": PLACE + ZEROS + op(VECTOR, 0x56, 0, 0, 3) + op(DROP) + ONE,
+    "lane's store": PLACE + ZEROS + op(VECTOR, 0x5A, 0, 0, 3) + ONE,
     "store": PLACE + ONE + op(STORE_BYTE, 0, 0) + ONE,
     "copy": op(GET, 1) + op(GET, 0) + FIRST + op(EXTEND) + op(MANY, COPY, 0, 0) + ONE,
     "fill": op(GET, 1) + ONE + FIRST + op(EXTEND) + op(MANY, FILL, 0) + ONE,
@@ -133,7 +128,7 @@ def planted():
         DATA: vector([]),
     }
     module = MAGIC + b"".join(bytes([it]) + sized(content) for it, content in found.items())
-    return traced(lowered(module, ["memory", *names])[0])
+    return traced(lowered(module, ["memory", *names], WITH_VECTORS)[0])
 
 
 def main(source, target, leaking):

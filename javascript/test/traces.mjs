@@ -64,7 +64,7 @@ function window(name, status, ...calls) {
   sum = count = 0;
   for (const [call, ...words] of calls) {
     const answer = exports[`yz_${call}`](...words);
-    const wanted = call.endsWith("verify") ? status : OK;
+    const wanted = /verify/.test(call) ? status : OK;
     if (call !== "equal" && answer !== wanted) throw new Error(`${name}: ${call} is ${answer}`);
   }
   windows.set(name, `${count} ${sum}`);
@@ -99,6 +99,31 @@ function windowsOfTags(n, size, l, m, at) {
   window(`wrong derived ${at}`, UNSPECIFIED, verifyDerived);
 }
 
+// A webhook's header is no secret: the secret is, and the body. No header here is right.
+function windowsOfWebhooks(n, size, l, m, at) {
+  const tag = "0123456789abcdef".repeat(8).slice(0, 2 * Number(size));
+  const texts = [`sha256=${tag}`, `t=77,v1=${tag},v1=${tag}`, "no header", ""];
+  texts.forEach((text, i) => {
+    new Uint8Array(exports.memory.buffer).set(new TextEncoder().encode(text), Number(context));
+    const prefix = [context, 7n], header = [context, BigInt(text.length)];
+    const call = (name, ...words) =>
+      window(`${name} ${i} ${at}`, UNSPECIFIED, [name, ...words]);
+    call("webhook_verify_hex", n, a, l, ...prefix, b, m, ...header);
+    call("webhook_verify_github", a, l, b, m, ...header);
+    call("webhook_verify_stripe", a, l, b, m, ...header, 80n, 3n);
+  });
+}
+
+function windowsOfTls13(n, size, l, at) {
+  const verify = ["tls13_finished_verify", n, a, size, b, size, tag, size];
+  window(`finished ${at}`, OK, ["tls13_finished", n, a, size, b, size, out, size]);
+  window(`right finished ${at}`, OK, ["tls13_finished", n, a, size, b, size, tag, size], verify);
+  window(`wrong finished ${at}`, UNSPECIFIED, verify);
+  if (l === 0n) return;
+  window(`external binder ${at}`, OK, ["tls13_binder_key", n, a, l, 1, out, size]);
+  window(`binder ${at}`, OK, ["tls13_binder_key", n, a, l, 0, out, size]);
+}
+
 // A password hash's text is no secret: the password is.
 function windowsOfPasswords(len) {
   for (const text of TEXTS) {
@@ -120,7 +145,10 @@ function windowsOf(run) {
       const words = [n, size, BigInt(len), BigInt(other), `${n} ${len} ${other}`];
       windowsOfDigests(...words);
       // SHA-512/256 has no tags.
-      if (n !== 5) windowsOfTags(...words);
+      if (n === 5) return;
+      windowsOfTags(...words);
+      windowsOfWebhooks(...words);
+      windowsOfTls13(n, size, BigInt(len), words.at(-1));
     });
   }
   return windows;

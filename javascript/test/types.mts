@@ -3,7 +3,8 @@
 
 import all, {
   createHash, createHmac, digest, hkdf, hkdfExpand, hkdfSync, hmacVerify, jws, merkle, otp,
-  passwordHash, pbkdf2Sync, pbkdf2, subtle, timingSafeEqual, type Hash, type PasswordHashScheme,
+  passwordHash, pbkdf2Sync, pbkdf2, subtle, timingSafeEqual, tls13, webhook, type Hash,
+  type PasswordHashScheme,
 } from "yezdopin";
 
 export const bytes: Uint8Array = digest("sha256", "abc");
@@ -29,6 +30,13 @@ const token: string = jws.sign("HS256", "a key", JSON.stringify({ sub: "a user" 
 export const payload: Uint8Array | null = all.jws.verify("HS512", bytes, token);
 export const password: string = otp.totp("sha1", "a key", 59, { digits: 8, allowShortKey: true });
 export const step: bigint | null = otp.findTotp("SHA-256", bytes, password, { time: 59n });
+declare const headers: Record<string, string | undefined>;
+export const isSigned: boolean = webhook.verifyGithub("a secret", bytes, headers["a"])
+  && all.webhook.verifyStripe(bytes, text, headers["b"] ?? null, { tolerance: 60, now: 59n })
+  && webhook.verifyHex("sha1", "a secret", text, bytes, { prefix: "v0=" });
+const binder: Uint8Array = tls13.binderKey("sha256", bytes, { isExternal: false });
+export const isBound: boolean = all.tls13.verifyFinished(
+  "SHA-256", binder, bytes, tls13.finished("SHA-256", binder, bytes));
 export const made: Promise<ArrayBuffer> = subtle.digest("SHA-1", bytes);
 
 // @ts-expect-error no tag of SHA-512/256
@@ -59,3 +67,13 @@ jws.verify("HS256", "a key", token).length;
 jws.sign("sha256", "a key", "");
 // @ts-expect-error no window
 otp.findHotp("sha1", "a key", password, { first: 0 });
+// @ts-expect-error text is no hash of a transcript
+tls13.finished("sha256", bytes, "transcript");
+// @ts-expect-error no word of whose PSK it is
+tls13.binderKey("sha256", bytes, {});
+// @ts-expect-error no header is a number
+webhook.verifyGithub("a secret", bytes, 7);
+// @ts-expect-error no time as text
+webhook.verifyStripe("a secret", bytes, text, { now: "59" });
+// @ts-expect-error no prefix in its place
+webhook.verifyHex("sha256", "a secret", bytes, text, "sha256=");

@@ -3,10 +3,11 @@
 
 import { createSecretKey } from "node:crypto";
 import { createReadStream } from "node:fs";
+import type { IncomingMessage } from "node:http";
 import { pipeline } from "node:stream/promises";
 import { promisify } from "node:util";
 import yz, {
-  Hash, createHash, createHmac, hash, jws, merkle, otp, pbkdf2, pbkdf2Sync, subtle,
+  Hash, createHash, createHmac, hash, jws, merkle, otp, pbkdf2, pbkdf2Sync, subtle, tls13, webhook,
 } from "yezdopin";
 
 export const text: string = pbkdf2Sync("a", "b", 1, 20, "sha1").toString("base64");
@@ -22,6 +23,12 @@ export const proof: Buffer[] = merkle.consistencyPath([merkle.leaf("a"), yz.merk
 const key = createSecretKey(Buffer.alloc(32)), token = jws.sign("HS256", key, "a payload");
 export const payload: string | undefined = jws.verify("HS256", key, token)?.toString();
 export const password: string = otp.hotp("sha1", key, 0n);
+declare const request: IncomingMessage;
+export const isSigned: boolean = webhook.verifyStripe(key, bytes,
+  request.headers["stripe-signature"], { now: BigInt(59) })
+  && webhook.verifyGithub(key, bytes, request.headersDistinct["x-hub-signature-256"]);
+export const binder: Buffer = yz.tls13.finished("sha256",
+  tls13.binderKey("sha256", key, { isExternal: true }), bytes);
 export const made: ArrayBuffer = await subtle.digest("SHA-1", bytes);
 
 // @ts-expect-error no such encoding

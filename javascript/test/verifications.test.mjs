@@ -61,6 +61,12 @@ async function agreed(...answers) {
   return found[0];
 }
 
+// Fields as text, in a list, or none where one of them is not ASCII.
+function textsOf(...fields) {
+  const texts = fields.map((it) => of(it).toString("latin1"));
+  return texts.some((it) => /[^\0-\x7f]/.test(it)) ? [] : [texts];
+}
+
 const keys = new Map();
 
 // A key of `subtle`, which takes no empty one.
@@ -109,6 +115,23 @@ const CALLS = {
       throw error;
     });
     return agreed(answer, later);
+  },
+  "webhook-hex": (name, prefix, secret, body, header) => agreed(
+    ...[[given(header), given(prefix)], ...textsOf(header, prefix)].map(([it, front]) =>
+      yz.webhook.verifyHex(name, given(secret), given(body), it, { prefix: front }))),
+  "webhook-github": (secret, body, header) => agreed(...[[given(header)], ...textsOf(header)]
+    .map(([it]) => yz.webhook.verifyGithub(given(secret), given(body), it))),
+  "webhook-stripe": (secret, body, header, time, seconds) => {
+    const options = { now: BigInt(time), tolerance: BigInt(seconds) };
+    return agreed(...[[given(header)], ...textsOf(header)].map(([it]) =>
+      yz.webhook.verifyStripe(given(secret), given(body), it, options)));
+  },
+  "tls13-finished": (name, key, transcript, data) => {
+    const words = [name, given(key), given(transcript)];
+    const made = refusedOr(["RangeError"], () => yz.tls13.finished(...words));
+    return agreed(
+      refusedOr(["RangeError"], () => yz.tls13.verifyFinished(...words, given(data))),
+      made && refusedOr(["RangeError"], () => yz.timingSafeEqual(made, given(data))));
   },
   equal: (a, b) => refusedOr(["RangeError"], () => yz.timingSafeEqual(given(a), given(b))),
 };

@@ -1,11 +1,12 @@
 # SPDX-License-Identifier: ISC
 """That wrong forms of generated/make/lower.py are found, and that it refuses what it doesn't list:
 
-    NODE=node python3 wrong_forms.py MODULE64 FOLDER NODE_FLAG EXPORT..
+    NODE=node python3 wrong_forms.py MODULE64 SIMD64 FOLDER NODE_FLAG EXPORT..
 
-Each wrong form is an edit of the program. It must lower the module, and the comparison of both
-modules (lowered.mjs) must end as is said of it. Each refused module is the right one with a part
-changed. A form that is too wide must take one of these.
+Each wrong form is an edit of the program. It must lower the module, which has vectors where the
+form is one of these, and the comparison of both modules (lowered.mjs) must end as is said of it.
+Each refused module is the right one with a part changed. A form that is too wide must take one of
+these.
 """
 
 import os
@@ -29,21 +30,21 @@ DIFFERENT_OR_TRAPPED = f"{DIFFERENT}|RuntimeError"
 
 # What an edit does, the text that it replaces, which stands once, the new one, and how it is found.
 FORMS = [
-    ("a load left wide", "op(WRAP) + self.offset(code, LOADS[code])",
+    ("a load left wide", "self.ADDRESS + self.offset(code, LOADS[code])",
      "self.offset(code, LOADS[code])", NOT_COMPILED),
-    ("a store left wide", "op(SET, value) + op(WRAP) + op(GET, value)",
+    ("a store left wide", "op(SET, value) + self.ADDRESS + op(GET, value)",
      "op(SET, value) + op(GET, value)", NOT_COMPILED),
     ("a copy's source left wide",
-     "op(SET, self.length) + op(WRAP) + op(SET, between) + op(WRAP)",
-     "op(SET, self.length) + op(SET, between) + op(WRAP)", NOT_COMPILED),
-    ("an address cut to 16 bits", "op(WRAP) + self.offset(code, LOADS[code])",
-     "op(WRAP) + op(I32_CONST) + b'\\xff\\xff\\3' + op(0x71) + self.offset(code, LOADS[code])",
+     "op(SET, self.length) + address + op(SET, between) + address",
+     "op(SET, self.length) + op(SET, between) + address", NOT_COMPILED),
+    ("an address cut to 16 bits", "self.ADDRESS + self.offset(code, LOADS[code])",
+     "self.ADDRESS + op(I32_CONST) + b'\\xff\\xff\\3' + op(0x71) + self.offset(code, LOADS[code])",
      DIFFERENT),
-    ("an offset cut to 7 bits", "op(code, alignment, offset)",
-     "op(code, alignment, offset & 0x7F)", DIFFERENT),
-    ("a load of 64 bits as one of 32", "op(code, alignment, offset)",
+    ("an offset cut to 7 bits", "op(code, *more, alignment, offset)",
+     "op(code, *more, alignment, offset & 0x7F)", DIFFERENT),
+    ("a load of 64 bits as one of 32", "op(code, *more, alignment, offset)",
      "op(0x35 if code == 0x29 else code, min(alignment, 2), offset)", DIFFERENT),
-    ("a store of 64 bits as one of 32", "op(code, alignment, offset)",
+    ("a store of 64 bits as one of 32", "op(code, *more, alignment, offset)",
      "op(0x3E if code == 0x37 else code, min(alignment, 2), offset)", DIFFERENT_OR_TRAPPED),
     ("a copy's source and length exchanged",
      "op(GET, between) + op(GET, self.length) + op(MANY, COPY, 0, 0)",
@@ -62,13 +63,29 @@ FORMS = [
 ]
 
 
+# The same of vectors.
+SIMD_FORMS = [
+    ("a vector's load left wide", "self.ADDRESS + self.offset(VECTOR, VECTOR_LOADS[code], code)",
+     "self.offset(VECTOR, VECTOR_LOADS[code], code)", NOT_COMPILED),
+    ("a vector's load of another offset",
+     "self.ADDRESS + self.offset(VECTOR, VECTOR_LOADS[code], code)",
+     "self.ADDRESS + op(I32_CONST, 4) + op(0x6A) + self.offset(VECTOR, VECTOR_LOADS[code], code)",
+     DIFFERENT_OR_TRAPPED),
+    ("a constant turned", "op(VECTOR, code) + self.code.take(VECTOR_PLAIN[code])",
+     "op(VECTOR, code) + self.code.take(VECTOR_PLAIN[code])[::-1]", DIFFERENT_OR_TRAPPED),
+    ("a sum of words of 32 bits as one of 64",
+     "op(VECTOR, code) + self.code.take(VECTOR_PLAIN[code])",
+     "op(VECTOR, 0xCE if code == 0xAE else code) + self.code.take(VECTOR_PLAIN[code])", DIFFERENT),
+]
+
+
 # Forms that refuse too little.
 GROUPS = "zip(roots, (PLAIN, OF_TEXTS_PLAIN))"
 WIDER = [
     ("a quotient of what is a secret", GROUPS, "zip(roots, (OF_TEXTS_PLAIN, OF_TEXTS_PLAIN))"),
     ("a quotient of what calls of secrets reach too", GROUPS,
      "zip(roots[::-1], (OF_TEXTS_PLAIN, PLAIN))"),
-    ("a block of any type", "if kind not in (I32, I64, NO_RESULT):", "if False:"),
+    ("a block of any type", "if kind not in (*self.kinds, NO_RESULT):", "if False:"),
 ]
 
 
@@ -79,14 +96,14 @@ def edited(text, old, new):
     return program
 
 
-def fault_of(text, edit, compared, exports):
+def fault_of(text, edit, compared, *words):
     """Why a wrong form is not found as it should be, or None."""
     old, new, wanted = edit
     module64, module32, command = compared
     if text.count(old) != 1:
         return "the text to edit does not stand once"
     program = edited(text, old, new)
-    module32.write_bytes(program["lowered"](module64.read_bytes(), exports)[0])
+    module32.write_bytes(program["lowered"](module64.read_bytes(), *words)[0])
     run = subprocess.run(command, capture_output=True, text=True, check=False)
     said = run.stdout + run.stderr
     return None if run.returncode and re.search(wanted, said) else said[-400:] or "no difference"
@@ -174,16 +191,24 @@ def reason_of_refusal(module, exports, lowered=lower.lowered):
     return None
 
 
-def main(module64, folder, flag, *exports):
-    """Tries each form and each module."""
+def try_forms(module64, folder, flag, forms, *words):
+    """Tries each form over a module, and gives how many are not found."""
     text, faults = LOWER.read_text(encoding="utf-8"), 0
-    module64, module32 = pathlib.Path(module64), pathlib.Path(folder) / "wrong_form.wasm"
+    module32 = pathlib.Path(folder) / "wrong_form.wasm"
     node = [os.environ.get("NODE", "node"), *flag.split()]
     compared = module64, module32, [*node, HERE / "lowered.mjs", module64, module32, TURNS]
-    for name, *edit in FORMS:
-        fault = fault_of(text, edit, compared, exports)
+    for name, *edit in forms:
+        fault = fault_of(text, edit, compared, *words)
         faults += fault is not None
         print(f"NOT FOUND: {name}: {fault}" if fault else f"found: {name}")
+    return faults
+
+
+def main(module64, simd64, folder, flag, *exports):
+    """Tries each form and each module."""
+    text, module64 = LOWER.read_text(encoding="utf-8"), pathlib.Path(module64)
+    faults = try_forms(module64, folder, flag, FORMS, exports)
+    faults += try_forms(pathlib.Path(simd64), folder, flag, SIMD_FORMS, exports, lower.WITH_VECTORS)
     count = 0
     for count, (name, wanted, changed) in enumerate(refused_modules(module64.read_bytes()), 1):
         reason = reason_of_refusal(changed, exports)
@@ -196,7 +221,7 @@ def main(module64, folder, flag, *exports):
                  if reason_of_refusal(changed, exports, lowered) is None]
         faults += text.count(old) != 1 or not taken
         print(f"found: {name}: {', '.join(taken)}" if taken else f"NOT FOUND: {name}")
-    forms = len(FORMS) + len(WIDER)
+    forms = len(FORMS) + len(SIMD_FORMS) + len(WIDER)
     print(f"{forms} wrong forms, {count} modules to refuse, {faults} faults")
     return faults != 0
 

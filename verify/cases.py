@@ -6,6 +6,7 @@ two on. So the cases of one input are 3 * 64 or 3 * 128. Other inputs have a len
 meanwhile. Of two inputs with open lengths, each remainder of one is run beside some of the other:
 not all pairs, and not all combinations."""
 
+import hashlib
 import itertools
 from collections import namedtuple
 
@@ -16,6 +17,7 @@ import sundry
 import terms
 import texts
 import merkle_trees
+import webhooks
 from calls import SHA, V3
 from standards import ALGORITHMS
 
@@ -25,14 +27,15 @@ ANY = "any"  # a number of iterations
 TAGS = (1, 2, 3, 4)  # the algorithms of tags
 EDGES = {0, 1, 20, 32, 48, 49, 55, 56, 63, 64, 65, 111, 112, 119, 120, 127, 128, 129}
 GROUPS = ("digest", "pieces", "dispatch", "hmac", "hmac_key", "made", "hkdf", "pbkdf2", "each",
-          "trees", "tokens", "passwords", "plain", "ask", "refused", "whole")
+          "trees", "tokens", "headers", "passwords", "plain", "ask", "refused", "whole")
 FEW = 64  # where one of so many is run
+# What a salt of letters is made of: divisions of 128 bits are run of numbers alone.
+RANDOM = [bytes(16), b"\xff" * 16, *(hashlib.shake_128(bytes([it])).digest(16) for it in range(6))]
 # Public functions that no case runs: their password is the tag's bits from a place that the tag
 # tells (RFC 4226, 5.3), divided by a power of ten: an address and a time by a secret.
 NOT_SHOWN = ("yz_hotp", "yz_totp", "yz_hotp_find", "yz_totp_find")
 
-
-MODULES = (functions, merkle_trees, texts, sundry, asking)  # that have the cases' functions
+MODULES = (functions, merkle_trees, texts, webhooks, sundry, asking)  # that have the cases' functions
 
 
 def prepared(name):
@@ -105,8 +108,8 @@ def threes(number, step):
 
 def cases(step):
     """All cases, of each algorithm and input one length of `step`."""
-    for of in (digests, tags, keys, derived, made, merkle, tokens, passwords, plain, asked, refused,
-               whole):
+    for of in (digests, tags, keys, derived, made, merkle, tokens, headers, passwords, plain, asked,
+               refused, whole):
         yield from (Case(group, features, function, arguments)
                     for group, features, function, *arguments in of(step))
 
@@ -176,6 +179,11 @@ def keys(step):
                 for secret in (32, 0, 129, Above(5))[::1 if step < FEW else 3]:
                     yield "hkdf", features, "hkdf_expand_label", number, secret, label, context, \
                         length
+            yield "hkdf", features, "tls13_finished", number
+            for psk in (1, 32, 48, 64, 131, Above(5))[::1 if step < FEW else 4]:
+                for is_external in (0, 1):
+                    yield "hkdf", features, "tls13_binder_key", number, psk, is_external
+        yield "hkdf", V3 * (number & 1), "refused_finished", number
 
 
 def derived(step):
@@ -251,6 +259,22 @@ def tokens(step):
         yield "tokens", V3, "jws_refused", number
 
 
+def headers(step):
+    """Headers of webhooks: Stripe's also at the last second, and one later."""
+    for number in TAGS:
+        for features in processors(number):
+            for secret, body in ((20, 40), (1, 0), (32, 100), (131, 200))[::1 if step < FEW else 4]:
+                yield "headers", features, "webhook_verify", number, secret, body
+                if step < FEW:
+                    yield "headers", features, "webhook_verify", number, secret, body, b""
+                for now in (webhooks.TIME, webhooks.TIME + 300) if number == 2 else ():
+                    yield "headers", features, "webhook_verify_stripe", 2, secret, body, now, 300
+    yield "headers", 0, "webhook_verify_stripe", 2, 20, 40, webhooks.TIME + 301, 300
+    yield "headers", V3, "webhook_verify_stripe", 2, 20, 40, 0, 0, 3
+    for number in (0, *ALGORITHMS, 6, 65538) if step < FEW else (1, 2, 5):
+        yield "headers", V3 * (number & 1), "webhook_refused", number
+
+
 def passwords(step):
     """Of the quick ones some schemes, each by one set of features."""
     for scheme, it in texts.SCHEMES.items():
@@ -271,9 +295,9 @@ def passwords(step):
             continue
         for iterations in (1, 720000, (1 << 32) - 1)[::1 if step < FEW else 3]:
             yield "passwords", 0, "hash_info", scheme, iterations, 16
-        if it.salt is not texts.as_it_is:
+        for random in RANDOM if it.salt is texts.as_it_is else [None]:
             for more in (-1, 0, 6):
-                yield "passwords", 0, "hash_salt", scheme, more
+                yield "passwords", 0, "hash_salt", scheme, more, random
         yield "passwords", 0, "hash_refused", scheme
     for scheme in (0, 13, 1 << 16 | 1):
         yield "passwords", 0, "hash_refused", scheme

@@ -258,14 +258,9 @@ def long_product(_, m, n, d):
     return f"umull {general(d, 1)}, {general(n, 0)}, {general(m, 0)}"
 
 
-@reads("0101101011000000000010nnnnnddddd")
-def reversed_word(_, n, d):
-    return f"rev {general(d, 0)}, {general(n, 0)}"
-
-
-@reads("1101101011000000000011nnnnnddddd")
-def reversed_long(_, n, d):
-    return f"rev {general(d, 1)}, {general(n, 1)}"
+@reads("f10110101100000000001lnnnnnddddd")
+def reversed_word(_, f, l, n, d):
+    return f"rev {general(d, f)}, {general(n, f)}" if f == l else None
 
 
 @reads("10011011110mmmmm011111nnnnnddddd")
@@ -467,15 +462,10 @@ def compared_with_zero(_, z, n, d):
     return f"cmeq {vector(d, 8 << z)}, {vector(n, 8 << z)}, #0"
 
 
-@reads("01u01110zz11000oooo010nnnnnddddd")
+@reads("01u01110zz11000ooooo10nnnnnddddd")
 def over_parts(_, u, z, o, n, d):
-    name = {(1, 5): "umaxv"}.get((u, o))
+    name = {(1, 10): "umaxv", (0, 27): "addv"}.get((u, o))
     return f"{name} {'bhs'[z]}{d}, {vector(n, 8 << z)}" if name and z < 3 else None
-
-
-@reads("01001110zz110001101110nnnnnddddd")
-def sum_of_parts(_, z, n, d):
-    return f"addv {'bhs'[z]}{d}, {vector(n, 8 << z)}" if z < 3 else None
 
 
 @reads("0010111100100000101001nnnnnddddd")

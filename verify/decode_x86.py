@@ -81,7 +81,7 @@ GENERAL_VEX = {
 }
 
 # Instructions over vectors: prefix, map, opcode (with the field of ModRM after a slash), what VEX
-# asks for (SSE: none is there; VEX: it is; W0, W1: and this bit of it), name, operands. With VEX a
+# asks for (SSE: none is there; VEX: it is; w0, w1: and this bit of it), name, operands. With VEX a
 # name has a v before it, and H stands; without, H isn't there, and the destination is the source.
 VECTORS = """
 -- 0F   10   any movups  V W    -- 0F   11   any movups  W V    F3 0F   10   any movss   S w32
@@ -106,26 +106,26 @@ F3 0F   6f   any movdqu  V W    F3 0F   7f   any movdqu  W V    66 0F   70   any
 66 0F38 00   any pshufb  V H W  66 0F38 17   any ptest   V W
 66 0F38 30   any pmovzxbw V w   66 0F38 31   any pmovzxbd V w   66 0F38 32   any pmovzxbq V w
 66 0F38 33   any pmovzxwd V w   66 0F38 35   any pmovzxdq V w
-66 0F38 16   W0  permps  V H W  66 0F38 18   W0  broadcastss V w  66 0F38 19   W0  broadcastsd V w
-66 0F38 36   W0  permd   V H W  66 0F38 45   W0  psrlvd  V H W  66 0F38 45   W1  psrlvq  V H W
-66 0F38 47   W0  psllvd  V H W  66 0F38 47   W1  psllvq  V H W
-66 0F38 58   W0  pbroadcastd V w  66 0F38 59   W0  pbroadcastq V w
-66 0F38 5a   W0  broadcasti128 V M               66 0F38 78   W0  pbroadcastb V w
+66 0F38 16   w0  permps  V H W  66 0F38 18   w0  broadcastss V w  66 0F38 19   w0  broadcastsd V w
+66 0F38 36   w0  permd   V H W  66 0F38 45   w0  psrlvd  V H W  66 0F38 45   w1  psrlvq  V H W
+66 0F38 47   w0  psllvd  V H W  66 0F38 47   w1  psllvq  V H W
+66 0F38 58   w0  pbroadcastd V w  66 0F38 59   w0  pbroadcastq V w
+66 0F38 5a   w0  broadcasti128 V M               66 0F38 78   w0  pbroadcastb V w
 -- 0F38 c8   SSE sha1nexte   V W  -- 0F38 c9   SSE sha1msg1    V W
 -- 0F38 ca   SSE sha1msg2    V W  -- 0F38 cb   SSE sha256rnds2 V W X
 -- 0F38 cc   SSE sha256msg1  V W  -- 0F38 cd   SSE sha256msg2  V W
-66 0F3A 00   W1  permq   V W i  66 0F3A 01   W1  permpd  V W i
-66 0F3A 02   W0  pblendd V H W i  66 0F3A 0c   any blendps V H W i  66 0F3A 0e   any pblendw V H W i
+66 0F3A 00   w1  permq   V W i  66 0F3A 01   w1  permpd  V W i
+66 0F3A 02   w0  pblendd V H W i  66 0F3A 0c   any blendps V H W i  66 0F3A 0e   any pblendw V H W i
 66 0F3A 0f   any palignr V H W i  66 0F3A 14   any pextrb  E32 v i  66 0F3A 15   any pextrw  E32 v i
 66 0F3A 16   any pextr   D v i  66 0F3A 17   any extractps E32 v i
-66 0F3A 18   W0  insertf128 V H w i  66 0F3A 20   any pinsrb  v h E32 i
+66 0F3A 18   w0  insertf128 V H w i  66 0F3A 20   any pinsrb  v h E32 i
 66 0F3A 21   any insertps V H W i  66 0F3A 22   any pinsr   v h D i
-66 0F3A 38   W0  inserti128 V H w i  66 0F3A 39   W0  extracti128 w V i
-66 0F3A 46   W0  perm2i128 V H W i
+66 0F3A 38   w0  inserti128 V H w i  66 0F3A 39   w0  extracti128 w V i
+66 0F3A 46   w0  perm2i128 V H W i
 -- 0F3A cc   SSE sha1rnds4 V W i
 """
 VECTOR_ROWS = {}
-for _it in re.finditer(r"(--|66|F2|F3) (\w+) +(\w\w)(/\d)? +(any|SSE|VEX|W0|W1) +(\S+) +"
+for _it in re.finditer(r"(--|66|F2|F3) (\w+) +(\w\w)(/\d)? +(any|SSE|VEX|w0|w1) +(\S+) +"
                        r"((?:[\w/-]+ )*?[\w/-]+)(?=  +|\n)", VECTORS):
     _key = (_it[1].replace("-", ""), _it[2], int(_it[3], 16))
     VECTOR_ROWS.setdefault(_key, []).append(
@@ -350,7 +350,7 @@ def over_vectors(reader, key):
                 continue
         if encoding == "SSE" and reader.vex or encoding not in ("any", "SSE") and not reader.vex:
             continue
-        if encoding in ("W0", "W1") and reader.W != int(encoding[1]):
+        if encoding in ("w0", "w1") and reader.W != int(encoding[1]):
             continue
         return vector_text(reader, key[2], row)
     return None

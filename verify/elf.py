@@ -36,7 +36,7 @@ class Library:
             raise WrongFile("it is cut off or damaged") from None
         if not self.symbols and not stripped:
             raise WrongFile("it has no names of its functions: it is stripped")
-        self.lines = {}  # by address
+        self.lines, self.decoded = {}, {}  # by address; what the latter are for a program
 
     def _read_file(self):
         data = self.data

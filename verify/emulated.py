@@ -76,7 +76,7 @@ def program():
 
 def answers(library, data):
     """The answers of a library with these bytes; or None where it ends by a signal or takes longer
-    than a minute."""
+    than ten minutes."""
     variable, = library.instructions(False)
     with tempfile.NamedTemporaryFile(suffix=".so") as file:
         file.write(data)
@@ -84,7 +84,7 @@ def answers(library, data):
         try:
             functions = [f"{letter}{start:x}" for letter, start, _ in run_alone(library)]
             done = subprocess.run([*RUN, program()[0], file.name, f"{variable:x}", *functions],
-                                  capture_output=True, timeout=60, check=False)
+                                  capture_output=True, timeout=600, check=False)
         except subprocess.TimeoutExpired:
             return None
     return None if done.returncode else done.stdout

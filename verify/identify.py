@@ -20,6 +20,7 @@ from machine import Refused, Region, at, run
 # gives those kernels that a function may be.
 Kind = namedtuple("Kind", "names kernels example")
 ROOM = 2048  # bytes, of each region of an example
+V3 = ".v3"  # ends the names of a program's build for x86-64-v3
 
 
 def bytes_of(name, count=ROOM):
@@ -159,7 +160,7 @@ def assigned(cpu, library, kind):
     it."""
     symbols = {}
     for it in library.functions(kind.names):
-        symbols.setdefault(it.name, []).append(it)
+        symbols.setdefault(it.name.removesuffix(V3), []).append(it)
     found = {}
     if len(kind.kernels) > 1:
         for name, builds in symbols.items():
@@ -177,5 +178,5 @@ def assigned(cpu, library, kind):
 
 
 def short_name(name):
-    """A name without the kit's number and the modules."""
-    return re.sub(r"\.[0-9a-f]{16}$", "", name).rpartition(".")[2]
+    """A name without the kit's number, the build and the modules."""
+    return re.sub(r"\.[0-9a-f]{16}$", "", name.removesuffix(V3)).rpartition(".")[2]

@@ -1,8 +1,9 @@
 # SPDX-License-Identifier: ISC
-"""What each kernel of the library has to do, and the check that it does."""
+"""What each kernel of the library and of the programs has to do, and the check that it does."""
 
 import multiprocessing
 import os
+import re
 from collections import namedtuple
 from functools import cache, partial
 
@@ -25,6 +26,16 @@ def architecture(library):
     return x86_windows if library.system == "Windows" else ARCHITECTURES[library.machine]
 
 
+METER_SIZE = 16
+
+
+def meter(cpu):
+    """The meter. Its count is public where code may choose by it."""
+    is_secret = not getattr(cpu, "METER_IS_PUBLIC", False)
+    return Region("meter", 0, METER_SIZE, True, 8,
+                  fill=lambda i: terms.fresh(f"meter[{i}]", 8, is_secret))
+
+
 def fresh_words(name, function, count):
     return [terms.fresh(f"{name}{i}", function.width) for i in range(count)]
 
@@ -38,7 +49,7 @@ def same_but(region, before, allowed):
 
 def refuse_word(state, region, offset, what):
     """Refuses what is at an offset, by the instruction that wrote it last."""
-    writer = state.regions[region].writers.get(offset)
+    writer = state.regions[region].written.get(offset)
     by = "nothing has written it" if writer is None else \
         f"last written at {writer:x}: {state.program.text(writer)}"
     raise Refused(f"{what} is not the standard's, at {offset} of {region}; {by}")
@@ -129,7 +140,7 @@ def over_message(symbol, function, start, chaining, length):
         return loop.prove(range(function.words), some), loop.steps
 
     others = [it for it in start.program.library.symbols
-              if "by_instruction.run_blocks" in it.name]
+              if re.search(start.program.looped, it.name)]
     without, after, steps = loops_of(symbol, others, start, prove)
     if literals(without.path) != {terms.xor(1, some)}:
         raise Refused("a return without the loop, where there are blocks")
@@ -152,7 +163,7 @@ def run_blocks(cpu, library, symbol, function, instructions):
     for i, word in enumerate(chaining):
         put_word(state, size * (i + 1), word)
     start.add_region(state)
-    start.add_region(Region("meter", 0, 16, True, 8))
+    start.add_region(meter(cpu))
     arguments = [is_sha256, at("state"), at("message"), length, at("meter")]
     cpu.put_arguments(start, arguments)
     ends, steps = over_message(symbol, function, start, chaining, length)
@@ -186,7 +197,7 @@ def output_after(cpu, library, symbol, function, instructions):
     chaining = fresh_words("H", function, function.words)
     for i, word in enumerate(chaining):
         put_word(context, STATE + size * (i + 1), word)
-    for region in (context, Region("output", 0, 64, True), Region("meter", 0, 16, True, 8)):
+    for region in (context, Region("output", 0, 64, True), meter(cpu)):
         start.add_region(region)
     arguments = [at("output"), at("context"), at("message"), length, at("meter")]
     cpu.put_arguments(start, arguments)
@@ -212,7 +223,7 @@ def in_each_lane(cpu, library, symbol, function, lanes, argument, message_of):
     chaining = [fresh_words(f"h{i}.", function, function.words) for i in range(lanes)]
     for i, words in enumerate(chaining):
         put_lane(states, size, lanes, i, words)
-    for register, region in zip(cpu.ARGUMENTS, (states, argument, Region("meter", 0, 16, True, 8))):
+    for register, region in zip(cpu.ARGUMENTS, (states, argument, meter(cpu))):
         start.add_region(region)
         start.registers[register] = at(region.name)
     before = start.copy()
@@ -317,7 +328,7 @@ def xor_iterates(cpu, library, symbol, function, lanes, front, instructions=Fals
     starts = Region("starts", 0, len(STARTS) * MAX_LANES * STATE_SIZE, modulus=8)
     put_starts(starts, function, states)
     outputs = Region("outputs", 0, lanes * OUTPUT_ROOM, True)
-    for region in (derivation, starts, outputs, Region("meter", 0, 16, True, 8)):
+    for region in (derivation, starts, outputs, meter(cpu)):
         start.add_region(region)
     counted = [terms.constant(1, 64)] if lanes == 1 else []
     arguments = [at("derivation"), at("starts"), at("outputs"), *counted, at("meter")]
@@ -356,7 +367,8 @@ Ahead = namedtuple("Ahead", "function")
 InLanes = namedtuple("InLanes", "function lanes front")  # `front` words of a block are no padding
 Blocks = namedtuple("Blocks", "function lanes")  # a block of bytes in each lane
 SHA1, SHA256, SHA512 = fips180_4.FUNCTIONS.values()
-NUMBER = r"(\.[0-9a-f]{16})?"  # the kit's, of the types
+# The kit's, of the types; then a program's, of its build for x86-64-v3.
+NUMBER = r"(\.[0-9a-f]{16})?" + rf"({re.escape(identify.V3)})?"
 SHA1_MODULES, SHA2_MODULES = (rf"ring_core\.digest\.{it}\.(\w+\.)*" for it in ("sha1", "sha2"))
 ITERATED = [InLanes(SHA1, 1, 5), InLanes(SHA256, 1, 8), InLanes(SHA512, 1, 8),
             InLanes(SHA512, 1, 6), InLanes(SHA512, 1, 4)]
@@ -385,19 +397,43 @@ KINDS = [  # each with the check of its contract
             identify.blocks_in_lanes), blocks_in_lanes) for name, of in OVER_BLOCKS.items()),
     (Kind(r"ring\.pbkdf2\.(\w+\.)*xor_iterates" + NUMBER, ITERATED + WIDE,
           identify.xor_iterates), xor_iterates)]
+# Of the programs, by the crates that begin them: what each of their builds has, since their sources
+# call it and the compiler doesn't put it into its callers. None runs SHA instructions.
+DERIVING = [run_ahead, run_blocks, output_after, block_of_words, xor_iterates]
+PROGRAMS = {"ring_sums_main": {"v2": [run_ahead, output_after, blocks_in_lanes],
+                               "v3": [run_ahead, blocks_in_lanes]},
+            "ring_passwords": {"v2": DERIVING},
+            "ring_bench_main": {"v2": DERIVING}}
 
 
 def builds_of(library, symbols):
     """Functions of one name, each with its build's name."""
     if library.machine != 62:
         return [("", it) for it in symbols]
-    if len(symbols) == 2:  # v2's stands before v3's
-        return list(zip(("v2", "v3"), symbols))
+    if len(symbols) == 2:  # v2's stands before v3's, and has the shorter name in a program
+        return list(zip(("v2", "v3"), sorted(symbols, key=lambda it: it.name)))
     return [("v3" if x86.Program(library).has_avx(it) else "v2", it) for it in symbols]
 
 
+def program_of(library):
+    """What the builds of a program have; None of a library."""
+    return next((builds for crate, builds in PROGRAMS.items()
+                 if library.functions(rf"{crate}\.main\.start")), None)
+
+
 def builds_with(library, check, kernel):
-    """The builds that have a kernel of a kind."""
+    """The builds that have to have a kernel of a kind."""
+    builds, program = builds_of_library(library, check, kernel), program_of(library)
+    if kernel in IF_NOT_INLINED:
+        return []
+    if program is None:
+        return builds
+    by_instructions = check is block_of_words and kernel.lanes == 1
+    return [it for it in builds if check in program.get(it, []) and not by_instructions]
+
+
+def builds_of_library(library, check, kernel):
+    """The builds of a library that have a kernel of a kind."""
     is_x86 = library.machine == 62
     if check is block_of_words and kernel.lanes == 1:  # by instructions
         return ["v2"] if is_x86 else [""]
@@ -443,7 +479,7 @@ def found_rows(library):
                 yield Row(build, symbol, check, kernel)
         for kernel in kind.kernels:
             for build in builds_with(library, check, kernel):
-                if (kernel, build) not in found and kernel not in IF_NOT_INLINED:
+                if (kernel, build) not in found:
                     yield Row(build, None, check, kernel)
 
 

@@ -279,7 +279,7 @@ def refusal(change):
     signal.signal(signal.SIGALRM, lambda *_: (_ for _ in ()).throw(Refused("it takes too long")))
     signal.alarm(SECONDS)
     library = LIBRARY[0]
-    library.data, library.lines = changed_data(library, change), {}
+    library.data, library.lines, library.decoded = changed_data(library, change), {}, {}
     try:
         KERNELS[change.kernel].check()
     except Refused as why:

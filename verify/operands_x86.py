@@ -6,7 +6,7 @@ import re
 from collections import namedtuple
 
 import terms
-from machine import Pointer, at
+from machine import Pointer, Unknown, at
 from terms import constant
 
 LONG = ["rax", "rcx", "rdx", "rbx", "rsp", "rbp", "rsi", "rdi", *(f"r{i}" for i in range(8, 16))]
@@ -34,10 +34,6 @@ Flags = namedtuple("Flags", "result cf pair of", defaults=[None, None])  # of: a
 # Prefixes that a reader writes as a word where they have no meaning with an instruction.
 PREFIXES = {"data16", "addr32", "repz", "repnz", "lock", "cs", "ds", "es", "fs", "gs", "ss",
             "notrack", "bnd"}
-
-
-class Unknown(Exception):
-    """An instruction that has no meaning here."""
 
 
 def operand(text):

@@ -14,24 +14,30 @@ import sys
 
 sys.dont_write_bytecode = True
 import kernels
+import kernels_wasm
+import wasm_module
 from elf import ARM, X86, Library
 from pe import Dll, is_dll
+from wasm_module import WASM
 
 ROOT = pathlib.Path(__file__).resolve().parent.parent
 PAGE = ROOT / "docs/VERIFY.md"
 BEGIN, END = "<!-- {}: made by verify/page.py -->\n", "<!-- /{} -->"
 # What a verdict on a kernel rests on, and what finds the kernels. A verdict on a whole call rests
 # on these and on further ones.
-TRUSTED = ["fips180_4.py", "kernels.py", "loops.py", "machine.py", "terms.py", "apart.py",
-           "elf.py", "identify.py", "check"]
+TRUSTED = ["fips180_4.py", "kernels.py", "loops.py", "machine.py", "program.py", "terms.py",
+           "apart.py", "elf.py", "identify.py", "check"]
 OF_X86 = ["x86.py", "operands_x86.py", "vectors_x86.py", "sha_x86.py", "decode_x86.py"]
-OF_ARM = ["arm.py", "decode_arm.py"]
+OF_ARM = ["arm.py", "operands_arm.py", "vectors_arm.py", "decode_arm.py"]
 OF_CALLS = ["standards.py", "lengths.py", "summaries.py", "calls.py", "functions.py",
             "merkle_trees.py", "texts.py", "sundry.py", "asking.py", "cases.py", "check_calls"]
 OF_WINDOWS = ["x86_windows.py", "pe.py"]
+OF_WASM = ["wasm.py", "operands_wasm.py", "vectors_wasm.py", "decode_wasm.py", "flow_wasm.py",
+           "wasm_module.py", "kernels_wasm.py"]
 COLUMNS = {(X86, "Linux"): ["Linux v2", "Linux SHA", "Linux v3"],
            (X86, "Windows"): ["Windows v2", "Windows SHA", "Windows v3"],
-           (ARM, "Linux"): ["ARM", "ARM SHA"]}
+           (ARM, "Linux"): ["ARM", "ARM SHA"],
+           **{(WASM, it): [it] for it in kernels_wasm.BOTH}}
 ALL_COLUMNS = [it for columns in COLUMNS.values() for it in columns]
 # A cell has the numbers of lanes that are shown, 1 for a function without lanes, and `no 4` where
 # the library lacks the function in 4. Rows that differ by their words alone are one, as
@@ -50,7 +56,8 @@ def functions(library):
     """What functions compute, each with the columns of the library that have some, and in how many
     lanes."""
     rows, columns = {}, COLUMNS[library.machine, library.system]
-    for it in kernels.of(library):
+    of = kernels_wasm.of if library.machine == WASM else kernels.of
+    for it in of(library):
         what = it.what.replace(" by instructions", "")
         lanes = (LANES.search(what) or ["", "1"])[1]
         cells = rows.setdefault(LANES.sub("", what), {}).setdefault(column(it, columns), [])
@@ -93,12 +100,12 @@ def with_functions(table, library):
 
 
 def lines():
-    """The lines of the checker's files: of kernels of both processors, and of whole calls, which
-    are of x86-64."""
+    """The lines of the checker's files: of kernels, and of whole calls, which are of x86-64."""
     rows = ["|For|Lines|", "|-|-|"]
     for of, files in (("kernels of x86-64", TRUSTED + OF_X86),
                       ("kernels of Windows", TRUSTED + OF_X86 + OF_WINDOWS),
                       ("kernels of 64-bit ARM", TRUSTED + OF_ARM),
+                      ("kernels of WebAssembly", TRUSTED + OF_WASM),
                       ("whole calls", TRUSTED + OF_X86 + OF_CALLS)):
         count = sum((ROOT / "verify" / it).read_text().count("\n") for it in files)
         rows.append(f"|{of}|{count}|")
@@ -121,12 +128,18 @@ def with_tables(text, libraries):
     return put(text, "lines", lambda _: lines())
 
 
+def opened(path):
+    if wasm_module.is_module(path):
+        return wasm_module.opened(path)
+    return (Dll if is_dll(path) else Library)(path)
+
+
 def main():
     words = [it for it in sys.argv[1:] if it != "--write"]
     if not words:
         sys.exit(__doc__)
     text = PAGE.read_text()
-    made = with_tables(text, [(Dll if is_dll(it) else Library)(it) for it in words])
+    made = with_tables(text, map(opened, words))
     if "--write" in sys.argv:
         PAGE.write_text(made)
     elif made != text:

@@ -52,20 +52,20 @@ def forget(region, start, end):
             region.initial.pop(i, None)
         else:
             region.cells[i] = terms.fresh("after a call", 8)
-    region.written.update(range(start, end))
+    region.written.update(dict.fromkeys(range(start, end)))
 
 
 def put_words(region, offset, words):
     for i, it in enumerate(words):
         put_word(region, offset + i * len(it) // 8, it)
-        region.written.update(range(offset + i * len(it) // 8, offset + (i + 1) * len(it) // 8))
+    size = sum(map(len, words)) // 8
+    region.written.update(dict.fromkeys(range(offset, offset + size)))
 
 
 def words_at(state, region, offset, size, count):
     found = [word_at(region, offset + i * size, size) for i in range(count)]
     if None in found:
         state.refuse(f"pointers in {region.name}, where words are wanted")
-    region.read.update(range(offset, offset + size * count))
     return found
 
 
@@ -130,8 +130,7 @@ class Summaries:
                 if apart_only:
                     apart(state, (to, i, count), (of, j, count))
                 cells = [of.cell(j + k) for k in range(count)]
-                of.read.update(range(j, j + count))
-                to.written.update(range(i, i + count))
+                to.written.update(dict.fromkeys(range(i, i + count)))
                 to.cells.update(zip(range(i, i + count), cells))
             return [target]
         return run
@@ -141,7 +140,7 @@ class Summaries:
         count = number(state, count, "how much is filled")
         if count:
             to, i = place(state, target, count, "what is filled", True)
-            to.written.update(range(i, i + count))
+            to.written.update(dict.fromkeys(range(i, i + count)))
             to.cells.update((k, value[:8]) for k in range(i, i + count))
         return [target]
 
@@ -195,7 +194,6 @@ class Summaries:
         for i in range(0, whole, 16 * size):
             block = [terms.joined([of.cell(at + i + j + k) for k in reversed(range(size))])
                      for j in range(0, 16 * size, size)]
-            of.read.update(range(at + i, at + i + 16 * size))
             chaining = self.block(function, chaining, block)
         put_words(region, offset + size, chaining)
         forget(meter[0], meter[1], meter[1] + 16)
@@ -241,7 +239,6 @@ class Summaries:
             block = [terms.joined([message.cell(i + j + k) for k in reversed(range(4))])
                      for j in range(0, 64, 4)]
             chaining = self.block(function, chaining, block)
-        message.read.update(range(offset, offset + (length & -64)))
         forget(to, start, start + 64)
         put_words(to, start, [terms.joined(terms.cut(it, 8)[::-1]) for it in chaining])
         forget(meter[0], meter[1], meter[1] + 16)

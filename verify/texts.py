@@ -23,6 +23,8 @@ FEW_ATOMS = 8  # of what terms.py looks at by tables: a byte
 LETTERS = (string.ascii_uppercase + string.ascii_lowercase + string.digits).encode()
 BASE64, URL_SAFE, ADAPTED = LETTERS + b"+/", LETTERS + b"-_", LETTERS + b"./"
 HEX = b"0123456789abcdef"
+DIGITS = (string.ascii_letters + string.digits).encode()  # of a salt of letters
+SALT_LETTERS = 22
 
 
 def in_letters(data, letters, bits):
@@ -202,10 +204,12 @@ def kept_of(block, number, iterations, salt, password):
 
 
 def salt_for(number, length):
-    """A salt: letters where a text has it as it is, else any bytes."""
-    if SCHEMES[number].salt is as_it_is:
-        return plain((b"saltSALT0123456789" * 4)[:length])
-    return public_bytes("salt", length)
+    """A salt: any bytes, but where a text has it as it is none is a dollar sign, which ends it."""
+    if SCHEMES[number].salt is not as_it_is:
+        return public_bytes("salt", length)
+    salt, end = public_bytes("salt of letters", length), standards.byte(ord("$"))
+    terms.ASSUMED.update(terms.is_zero(terms.xor_words(it, end)) for it in salt)
+    return salt
 
 
 def kept_for(number):
@@ -253,20 +257,30 @@ def hash_info(calls, number, iterations, salt):
             same(region.name, content(end, region), terms.cut(terms.constant(found, 32), 8))
 
 
-def hash_salt(calls, number, more=0):
-    """A salt that is the random bytes. (That of letters is by divisions of 128 bits.)"""
-    size = 16 + more
+def letters_of(random):
+    """A salt of letters: the number's digits to the base 62, the lowest first."""
+    number, found = int.from_bytes(random, "big"), b""
+    while len(found) < SALT_LETTERS:
+        number, digit = divmod(number, len(DIGITS))
+        found += DIGITS[digit:digit + 1]
+    return found
+
+
+def hash_salt(calls, number, more=0, random=None):
+    """A salt that is the random bytes; or of letters, from bytes that are numbers."""
+    data = unknown_bytes("random", 16) if random is None else plain(random)
+    salt = data if random is None else plain(letters_of(random))
+    size = len(salt) + more
     out, written = room("salt", size), room("salt length", 8, 8)
-    for end in calls.call("yz_password_hash_salt", number, *source("random", 16), out, (size,),
-                          written):
+    for end in calls.call("yz_password_hash_salt", number, text_region("random", data), (16,), out,
+                          (size,), written):
         if answer(end) != (OK if more >= 0 else WRONG_LENGTH):
             raise Refused(f"yz_password_hash_salt answers {answer(end)}")
         if more < 0:
             unwritten(end, out, written)
             continue
-        same("the salt", content(end, out),
-             unknown_bytes("random", 16) + unknown_bytes("salt", size)[16:])
-        same("the length", content(end, written), terms.cut(terms.constant(16, 64), 8))
+        same("the salt", content(end, out), salt + unknown_bytes("salt", size)[len(salt):])
+        same("the length", content(end, written), terms.cut(terms.constant(len(salt), 64), 8))
 
 
 def hash_refused(calls, number):
@@ -286,6 +300,11 @@ def hash_refused(calls, number):
             (300,), written, out=both)
     refuses(calls, UNSPECIFIED, "yz_password_hash_salt", number, *source("random", 15), out,
             (300,), written, out=both)
+    for at in (0, 4, 8) if SCHEMES[number].salt is as_it_is else ():
+        data = salt_for(number, 9)
+        data[at] = standards.byte(ord("$"))
+        refuses(calls, BAD_SALT, "yz_password_hash_new", number, 1, text_region("salt", data), (9,),
+                *password, out, (300,), written, out=both)
     kept = plain(bytes(range(SCHEMES[number].kept)))
     text = bytes(map(terms.number_of, hash_text(number, 7, plain(b"saltsalt"), kept)))
     numbers = room("scheme", 4, 4), room("iterations", 4, 4)

@@ -3,8 +3,8 @@
 instruction, the name without the prefix `v`, whether it has that)."""
 
 import terms
-from machine import Pointer, whole
-from operands_x86 import Flags, Immediate, Memory, Unknown, Vector, read, word, write
+from machine import Pointer, Unknown, whole
+from operands_x86 import Immediate, Memory, Vector, read, word, write
 from sha_x86 import sha1msg1, sha1msg2, sha1nexte, sha1rnds4, sha256msg1, sha256msg2, sha256rnds2
 from terms import (add, and_words, constant, cut, inverted, joined, number_of, or_words,
                    shifted_left, shifted_right, xor_words)
@@ -296,14 +296,6 @@ def rounds_by_xmm0(state, it, *_):
                                       read(state, wk, 128)), False)
 
 
-def tested(state, it, _, has_v):
-    """ptest: whether the and of two vectors is zero; SF is cleared."""
-    source, target = it.operands
-    result = and_words(read(state, target, target.width),
-                       read(state, source, target.width, not has_v))
-    state.flags = Flags(result + (0,), None)
-
-
 def highest_bits(state, it, _, __):
     """pmovmskb: the highest bit of each byte."""
     source, target = it.operands
@@ -330,7 +322,7 @@ SPECIAL = {
     "pmovzxdq": extended(32, 64), "pmovzxbq": extended(8, 64), "pmovzxbd": extended(8, 32),
     "pmovzxwd": extended(16, 32), "pmovzxbw": extended(8, 16),
     "pmovmskb": highest_bits, "pbroadcastb": broadcast(8),
-    "ptest": tested, "insertps": inserted_words, "pinsrw": inserted(16), "pinsrb": inserted(8),
+    "insertps": inserted_words, "pinsrw": inserted(16), "pinsrb": inserted(8),
     "pextrb": extracted(8), "pextrw": extracted(16),
     "pshufd": shuffled, "pblendd": blended, "permq": permuted, "permd": permuted_words,
     "extracti128": extracted_half,

@@ -6,11 +6,11 @@
 
 The definition stands beside hashlib, the vectors and the tables of crates/; the reader of
 instructions beside objdump; their meanings beside the processor; the terms beside Python's numbers.
-Then the library is checked, and so are copies with faults, which the check must refuse; all that
-for x86-64, and for 64-bit ARM under qemu. The libraries are built by make first. What takes minutes
-isn't tried again where neither a library nor the checker has changed since it passed, for the user
-of this machine: --anew tries all. The last line is 'N passed, M failed', or 'N passed, M failed, K
-skipped'.
+Then the library is checked, and so are the programs and copies with faults, which the check must
+refuse; all that for x86-64, and for 64-bit ARM under qemu. The libraries are built by make first.
+What takes minutes isn't tried again where neither a library nor the checker has changed since it
+passed, for the user of this machine: --anew tries all. The last line is 'N passed, M failed', or 'N
+passed, M failed, K skipped'.
 """
 
 import hashlib
@@ -26,6 +26,8 @@ sys.path += [str(ROOT / "tests/lib"), str(ROOT / "verify")]
 import counted
 import definition
 import for_arm
+import for_programs
+import for_wasm
 import for_windows
 import machine_code
 import refused
@@ -41,6 +43,8 @@ def digest():
     for library in (machine_code.LIBRARY, for_arm.LIBRARY)[:1 + bool(for_arm.HAS_COMPILER)]:
         found.update(library.read_bytes())
         found.update(library.with_name("libyezdopin.a").read_bytes())
+    for path in (*for_wasm.TEXTS, *for_programs.TEXTS):
+        found.update(path.read_bytes())
     for folder in (ROOT / "verify", ROOT / "tests/verify"):
         for path in sorted(folder.iterdir()):
             if path.is_file():
@@ -64,7 +68,7 @@ def main():
         print(kept.read_text(), end="")
         return 0
     cases = (*definition.CASES, *machine_code.CASES, *refused.CASES, *shipped.CASES,
-             *for_arm.CASES, *for_windows.CASES)
+             *for_programs.CASES, *for_arm.CASES, *for_windows.CASES, *for_wasm.CASES)
     counts = counted.run(counted.suite(cases, names), sys.stdout).counts()
     status = counted.report(*counts)
     if not status and not names and not counts[2]:

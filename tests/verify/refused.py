@@ -12,12 +12,35 @@ import unittest
 
 from machine_code import LIBRARY, ROOT
 
+# SHA-512's constant of the seventeenth round: run_ahead's callers add the first sixteen.
+SEVENTEENTH = 0xe49b69c19ef14ad2
+
 
 def check(*words):
     """How a check ends: its status, its output, its messages."""
     done = subprocess.run([ROOT / "verify/check", *words], capture_output=True, text=True,
                           check=False)
     return done.returncode, done.stdout, done.stderr
+
+
+def check_changed(path, old, new, line):
+    """How a check of some lines ends, in a copy of a file with other bytes in the place of some."""
+    data = path.read_bytes()
+    with tempfile.TemporaryDirectory() as room:
+        copy = pathlib.Path(room, "changed")
+        copy.write_bytes(data.replace(old, new))
+        return check("--only", line, copy)
+
+
+def check_without(path, name, line):
+    """The same of a copy that has no function of a name."""
+    return check_changed(path, name, b"X" + name[1:], line)
+
+
+def check_flipped(path, constant, line):
+    """The same of a copy with a flipped bit of a constant, a number of 64 bits."""
+    old = constant.to_bytes(8, "little")
+    return check_changed(path, old, bytes([old[0] ^ 1]) + old[1:], line)
 
 
 def with_long_segments(data):
@@ -65,6 +88,16 @@ class Arguments(unittest.TestCase):
                 self.assertIn(message, messages)
                 self.assertEqual(messages.count("\n"), 1)
 
+    @unittest.skipUnless(shutil.which("unshare") and not subprocess.call(["unshare", "-rm", "true"],
+                         stderr=subprocess.DEVNULL), "unshare")
+    def test_no_locks(self):
+        """Where its processes can make no locks, the message doesn't blame the library."""
+        mounted = 'mount -t tmpfs -o ro none /dev/shm && exec "$0" "$1"'
+        words = ["unshare", "-rm", "sh", "-c", mounted, ROOT / "verify/check", LIBRARY]
+        done = subprocess.run(words, capture_output=True, text=True, check=False)
+        self.assertEqual((done.returncode, done.stdout), (2, ""))
+        self.assertIn(": its processes need a /dev/shm that they may write to: ", done.stderr)
+
     def test_other_line(self):
         """--only with a text that no line has is refused, rather than nothing shown."""
         status, output, messages = check("--only", "SHA-3", LIBRARY)
@@ -82,23 +115,17 @@ class Memory(unittest.TestCase):
 
 
 class Lacking(unittest.TestCase):
-    def check_without(self, name, line):
-        """How a check of some lines ends, in a library that has no function of a name."""
-        data = LIBRARY.read_bytes()
-        with tempfile.TemporaryDirectory() as room:
-            path = pathlib.Path(room, "library.so")
-            path.write_bytes(data.replace(name, b"X" + name[1:]))
-            return check("--only", line, path)
-
     def test_function(self):
         """A library without one of the functions is refused, and the line says which."""
-        status, output, _ = self.check_without(b"Sha1RunBlocks64", "SHA-1 in 4 lanes over blocks")
+        line = "SHA-1 in 4 lanes over blocks"
+        status, output, _ = check_without(LIBRARY, b"Sha1RunBlocks64", line)
         self.assertEqual(status, 1)
         self.assertIn("REFUSED SHA-1 in 4 lanes over blocks v2: there is no function for", output)
 
     def test_inlined(self):
         """A function that may be inlined isn't asked for, and is no line then."""
-        status, output, messages = self.check_without(b"RunBlocks128", "SHA-512 in 4 lanes over")
+        line = "SHA-512 in 4 lanes over"
+        status, output, messages = check_without(LIBRARY, b"RunBlocks128", line)
         self.assertEqual((status, output), (2, ""))
         self.assertIn("no line has 'SHA-512 in 4 lanes over'", messages)
 
@@ -106,18 +133,11 @@ class Lacking(unittest.TestCase):
 class Faults(unittest.TestCase):
     def test_one(self):
         """A flipped bit of a block function's constants is refused with status 1 and the word."""
-        data = LIBRARY.read_bytes()
-        # Of the seventeenth round: run_ahead's callers add the first sixteen.
-        K = (0xe49b69c19ef14ad2).to_bytes(8, "little")
-        self.assertIn(K, data)
-        with tempfile.TemporaryDirectory() as room:
-            path = pathlib.Path(room, "faulty.so")
-            path.write_bytes(data.replace(K, bytes([K[0] ^ 1]) + K[1:]))
-            status, output, _ = check("--only", "SHA-512 v3 (run_ahead", path)
-            self.assertEqual(status, 1)
-            self.assertRegex(output, r"REFUSED SHA-512 v3 .*: chaining word \d is not the "
-                                     r"standard's, .*; last written at [0-9a-f]+: \S+ \S+")
-            self.assertEqual(output.splitlines()[-1], "0 functions shown, 1 refused")
+        status, output, _ = check_flipped(LIBRARY, SEVENTEENTH, "SHA-512 v3 (run_ahead")
+        self.assertEqual(status, 1)
+        self.assertRegex(output, r"REFUSED SHA-512 v3 .*: chaining word \d is not the "
+                                 r"standard's, .*; last written at [0-9a-f]+: \S+ \S+")
+        self.assertEqual(output.splitlines()[-1], "0 functions shown, 1 refused")
 
     @unittest.skipUnless(shutil.which("gcc"), "gcc")
     def test_planted(self):

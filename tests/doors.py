@@ -57,6 +57,7 @@ NEEDED = {
     "cargo": ["make", "cc", "cargo"],
     "openssl": ["openssl", "OpenSSL 3's headers"],
     "npm": ["make", "node", "npm"],
+    "make -C YEZDOPIN js": ["node"],
     "make check": ["c++", "objdump", "sanitizers", "pkg-config", "Python.h", "pip", "cargo"],
     "ARCH=aarch64": ["aarch64-linux-gnu-gcc", "aarch64-linux-gnu-g++", "qemu-aarch64"],
     "PACKAGES=crate": ["aarch64-linux-gnu-gcc"],

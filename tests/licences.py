@@ -8,8 +8,8 @@
 
 A function is of the crate that begins its name in generated/*.S, and inlined code counts for the
 function that it is in. No licence is named for the kit's own libraries: core, libc, os and those
-whose names begin with `std`. The library may have none of their functions but LEFT, each with
-what calls it. The last line is 'N passed, M failed'.
+whose names begin with `std`. The library may have none of their functions. The last line is
+'N passed, M failed'.
 """
 
 import pathlib
@@ -24,12 +24,6 @@ import counted
 # Ports of Rust crates, whose notices are in LICENSE.
 MIT = {"base64", "hex", "itoa", "memchr"}
 UNNAMED = re.compile(r"core|libc|os|std\w*")
-# What is left in the library, by the beginnings of the names, and why.
-LEFT = {
-    "core.cmp.slices.groups_equal": "`==` of two slices in ring_text::count_in and ring_tokens",
-    "core.cmp.arrays.ArrayPartialEq": "`==` of two hashes in ring_merkle",
-    "core.slice.words.skip_far": "the search for a byte of ring_text::cut_at",
-}
 # The texts of programs, each with the page that has its share.
 PAGES = {
     "ring_bench_main": "docs/LINES.md",
@@ -74,17 +68,29 @@ def share(text):
     return round(100 * sum(unnamed(text).values()) / sum(functions(text).values()))
 
 
-def library_has_only_what_is_left():
-    """The library's texts have no function without a licence but those of LEFT."""
-    return [(name, it) for name, text in texts("yezdopin_*.S").items() for it in unnamed(text)
-            if not it.startswith(tuple(LEFT))]
+def of_the_kit(found):
+    """The functions in some texts for which no licence is named, and the texts without ours."""
+    for name, text in found.items():
+        if not any(it.startswith("ring_core.") for it in functions(text)):
+            yield name, "no function of ring_core: the names are read wrongly"
+        yield from ((name, it) for it in unnamed(text))
 
 
-def what_is_left_is_there():
-    """Each of LEFT is in the library's text, so that the list shrinks with it."""
-    found = [it for text in texts("yezdopin_*.S").values() for it in unnamed(text)]
-    return [(it, "gone: take it from LEFT and LICENSE") for it in LEFT
-            if not any(name.startswith(it) for name in found)]
+def library_has_none():
+    """The library's texts have no function for which no licence is named."""
+    found = texts("yezdopin_*.S")
+    return [*of_the_kit(found)] if found else [("generated", "has no text of the library")]
+
+
+def planted_function_of_the_library_is_found():
+    """In each text of the library a function of the kit's that is planted there is found."""
+    wrong = []
+    for name, text in texts("yezdopin_*.S").items():
+        own = min(it for it in functions(text) if it.startswith("ring_core."))
+        planted = text.replace(own, "core.slice.planted")
+        if (name, "core.slice.planted") not in of_the_kit({name: planted}):
+            wrong.append((name, "core.slice.planted is not found"))
+    return wrong
 
 
 def pages_have_the_shares():
@@ -147,7 +153,7 @@ def main():
     if sys.argv[1:] == ["--write"]:
         write_shares()
         return 0
-    cases = [library_has_only_what_is_left, what_is_left_is_there, pages_have_the_shares,
+    cases = [library_has_none, planted_function_of_the_library_is_found, pages_have_the_shares,
              places_name_the_same, planted_functions_are_found]
     return counted.report(*counted.run_answered((it, "") for it in cases))
 

@@ -64,7 +64,7 @@ METERS = {
     "ring_merkle": 10,
     "ring_passwords": 3,
     "ring_schedules": 2,
-    "ring_tokens": 12,
+    "ring_tokens": 13,
     "ring_sums": 1,
     "ring_examples": 18,
     "ring_speed": 4,

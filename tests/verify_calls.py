@@ -381,7 +381,8 @@ def main():
         return 0
     add_faults()
     terms.OPAQUE_OR = True
-    counts = counted.run(counted.suite((Lengths, Definitions, Faults, Calls), names), sys.stdout).counts()
+    suite = counted.suite((Lengths, Definitions, Faults, Calls), names)
+    counts = counted.run(suite, sys.stdout).counts()
     status = counted.report(*counts)
     if not status and not names and not counts[2]:
         KEPT.mkdir(parents=True, exist_ok=True)

@@ -6,21 +6,23 @@ PLACES are the files that have to state it. Beside them a package or a program w
 its name, as in `NAME-1.2.3.crate`, and the shared library with its major number are looked for in
 all files and their names, but for the pages of HISTORY, which speak of other versions too. Then
 another version is planted wherever this one stands, in any file, and must be found there, so that
-no place is left out. The last line is 'N passed, M failed'.
+no place is left out. The same is tried of the texts as tools/new_version raises them. The last line
+is 'N passed, M failed'.
 """
 
 import pathlib
 import re
+import runpy
 import subprocess
 import sys
 
 ROOT = pathlib.Path(__file__).resolve().parent.parent
 HEADER = "c/include/yezdopin.h"
 HISTORY = ("CHANGELOG.md", "docs/VERSIONS.md")
-# What states no version: other projects' outputs, machine code as text, and this test; and what has
-# the version of each symbol, with its test.
+# What states no version: other projects' outputs, machine code as text, and this test; what has the
+# version of each symbol, with its test; and what has a next version for an example.
 NOT_READ = (":!vectors", ":!generated", ":!tests/version.py", ":!tests/symbols.py",
-            ":!packaging/debian/*.symbols")
+            ":!packaging/debian/*.symbols", ":!docs/RELEASING.md", ":!tools/new_version")
 
 # The files that must state the version, and how: the first that the pattern finds is read.
 PLACES = (
@@ -100,14 +102,18 @@ def with_other(text, span, other):
     return text[: span[0]] + other + text[span[1] :]
 
 
-def planted(texts):
-    """Another version in each place where this one stands, none in PLACES, and those of RAISED."""
+def literals(texts):
+    """Another version in each place where this one stands."""
     version = version_of(texts)
     literal = re.compile(rf"(?<![\d.]){re.escape('.'.join(map(str, version)))}(?!\.?\d)")
     other = ".".join(map(str, (*version[:-1], version[-1] + 1)))
     for name, text in texts.items():
         for match in literal.finditer(text):
             yield name, with_other(text, match.span(), other)
+
+
+def planted(texts):
+    """Beside those of `literals`, no version in PLACES, and those of RAISED."""
     for pattern, *files in PLACES:
         for name in files:
             match = re.search(pattern, texts[name], re.M)
@@ -125,13 +131,26 @@ def missed_faults(texts, faults):
             yield f"planted in {name}, and no pattern reads it"
 
 
+def raised(texts):
+    """The texts of the next version, which begins with a change of the interface."""
+    tool = runpy.run_path(str(ROOT / "tools/new_version"))
+    major, minor, patch = version_of(texts)
+    changed = {**texts, "CHANGELOG.md": "## Unreleased\n" + texts["CHANGELOG.md"]}
+    return {name: tool["replaced"](name, text, f"{major}.{minor}.{patch}", f"{major}.{minor + 1}.0")
+            for name, text in changed.items()}
+
+
 def main():
     texts = texts_of_repository()
-    found, faults = list(outcomes(texts)), list(planted(texts))
-    failed = [it for it in found if it] + list(missed_faults(texts, faults))
+    later = raised(texts)
+    count, failed = 0, []
+    for it, faults in ((texts, [*literals(texts), *planted(texts)]), (later, [*literals(later)])):
+        found = list(outcomes(it))
+        count += len(found) + len(faults)
+        failed += [why for why in found if why] + list(missed_faults(it, faults))
     for it in failed:
         print(f"FAILED: {it}")
-    print(f"{len(found) + len(faults) - len(failed)} passed, {len(failed)} failed")
+    print(f"{count - len(failed)} passed, {len(failed)} failed")
     return bool(failed)
 
 

@@ -61,7 +61,6 @@ NOTES = {
     "ring_merkle::verify_inclusion": "whether the leaf hash is at `index`",
     "ring_merkle::tree_root": "of leaf hashes",
     "ring_merkle::Tree::push": "a leaf's hash",
-    "ring_tokens::claims::is_current": "whether a claims set is current at `now`",
     "ring_tokens::jws::verify": "the payload",
     "ring_tokens::jws::verify_in_place": "the payload, at the start of `out`",
     "ring_tokens::jws::sign_in_place": "at the start of `out`",
@@ -71,6 +70,7 @@ NOTES = {
     "ring_tokens::otp::totp": "`time` in seconds since 1970",
     "ring_tokens::otp::find_totp": "the first step whose password is `text`",
     "ring_tokens::webhook::verify_github": "`header` is `X-Hub-Signature-256`",
+    "ring_tokens::webhook::verify_hex": "`prefix`, the tag",
     "ring_tokens::webhook::verify_stripe": "`header` is `Stripe-Signature`",
 }
 

@@ -79,6 +79,7 @@ LINES = {
         "number_from_digits": "of digits to a base, highest first",
         "decimal": "decimal digits as bytes",
         "digit_value hex_digit_value": "a digit's value to a base; a hex digit's",
+        "AllDigits digits_value": "all bytes are digits to a base; the number that they write",
         "iterate": "`iterate h n x`: h applied n times to x",
     },
     "Lists": {
@@ -129,7 +130,8 @@ LINES = {
         "Json document value_view": "a JSON value; of a text, if any; of a parsed value",
         "null boolean number string array object": "JSON's values",
         "get HasUniqueKeys": "`get name v`: the member, if any; no object has a name twice",
-        "path_parent": "a path's folder",
+        "path_parent path_file_name dir_entry_name":
+            "a path's folder; its last name; that of a folder's entry",
     },
     "Reading, writing, errors of the system": {
         "Error error_kind": "of reading or writing; its kind",

@@ -313,7 +313,7 @@ PLANTED = {
     "`write_encoded` of the program tests the password by a plain form": before(
         NO_PLAIN_DERIVATION,
         "crates/ring_passwords/src/main.rt",
-        "    let mut random = [0; RANDOM_LEN];\n",
+        "    let mut system = System { rt };\n",
         "let _ = ring_password_hash::verify(&password, &password, u32::MAX);",
     ),
     "`test` of the program's texts derives twice": before(

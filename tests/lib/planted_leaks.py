@@ -5,8 +5,9 @@ FINISHED = "crates/ring_schedules/src/tls13/traffic.rt"
 FINISHED_COMPARED = "        verify_slices_are_equal_counted(tag.as_ref(), verify_data, meter)\n"
 WEBHOOK = "crates/ring_tokens/src/webhook.rt"
 WEBHOOK_COMPARED = (
-    "    let is_same = verify_slices_are_equal_counted(tag, &given, meter).is_ok();\n"
+    "    let is_same = verify_slices_are_equal_counted(tag, given, meter).is_ok();\n"
 )
+WEBHOOK_ANSWERED = "    if !is_named(prefix, tag.as_ref(), header, meter) {\n"
 SIGNATURE = "crates/ring_tokens/src/signature.rt"
 SIGNATURE_COMPARED = (
     "    let is_same = verify_slices_are_equal_counted(tag, &given[..tag.len()], meter).is_ok();\n"
@@ -21,6 +22,8 @@ STORED = "crates/ring_password_hash/src/stored.rt"
 STORED_COMPARED = (
     "        match verify_slices_are_equal_counted(&self.kept[..self.kept_len], derived, meter) {\n"
 )
+TLS13 = "crates/ring_c/src/tls13.rt"
+TLS13_COMPARED = "    match verify_slices_are_equal(tag.as_ref(), verify_data) {\n"
 TAG = "crates/ring/src/hmac.rt"
 TAG_COMPARED = "    verify_slices_are_equal_counted(made.as_ref(), tag, meter)\n"
 RECEIVER = "crates/ring/src/pbkdf2/receiver.rt"
@@ -81,23 +84,48 @@ PLANTED = {
     ),
     "a webhook's tag ends at the first byte that differs": (
         WEBHOOK, WEBHOOK_COMPARED,
-        "    let _ = verify_slices_are_equal_counted(tag, &given, meter);\n"
-        "    let is_same = given.as_slice() == tag;\n",
+        "    let _ = verify_slices_are_equal_counted(tag, given, meter);\n"
+        "    let is_same = given == tag;\n",
     ),
     "a webhook's tag is compared by its first byte too": beside(
         WEBHOOK, WEBHOOK_COMPARED, "if tag.first() != given.first() { let _ = meter.blocks(); }",
     ),
     "a webhook's tag begins with what is given": beside(
-        WEBHOOK, WEBHOOK_COMPARED, "let _ = tag.starts_with(&given);",
+        WEBHOOK, WEBHOOK_COMPARED, "let _ = tag.starts_with(given);",
     ),
     "a webhook's tag is handed to a call that reads a text": beside(
-        WEBHOOK, WEBHOOK_COMPARED, "let _ = after(&given, tag);",
+        WEBHOOK, WEBHOOK_COMPARED, "let _ = after(given, tag);",
     ),
     "a webhook's tag is searched for a byte": beside(
         WEBHOOK, WEBHOOK_COMPARED, "let _ = memchr(given[0], tag);",
     ),
     "a webhook's tag is read by a table": beside(
         WEBHOOK, WEBHOOK_COMPARED, "let _ = b\"0123456789abcdef\"[(tag[0] >> 4) as usize];",
+    ),
+    "a header's tag is compared by `!=` too": beside(
+        WEBHOOK, WEBHOOK_ANSWERED,
+        f"if !header.is_empty() && tag.as_ref() != &header[..] {REFUSES}",
+    ),
+    "a header is cut where the tag says": beside(
+        WEBHOOK, WEBHOOK_ANSWERED, "let _ = &header[..tag.as_ref()[0] as usize];",
+    ),
+    "verify_data for C is compared by `==` too": beside(
+        TLS13, TLS13_COMPARED, "    if tag.as_ref() == verify_data { return OK; }",
+    ),
+    "verify_data for C is compared in a loop": beside(
+        TLS13, TLS13_COMPARED,
+        "    for (made, given) in tag.as_ref().iter().zip(verify_data) {"
+        " if made != given { return UNSPECIFIED; } }",
+    ),
+    "verify_data for C is matched with a zero byte": beside(
+        TLS13, TLS13_COMPARED, "    if let [0, ..] = tag.as_ref() { return UNSPECIFIED; }",
+    ),
+    "a binder's key is of a table by the pre-shared key": beside(
+        TLS13, "    if psk.is_empty() {\n", "    let _ = b\"01\"[(psk[0] & 1) as usize];",
+    ),
+    "a base key of zeros is refused": beside(
+        TLS13, "    let mut room = [0; MAX_OUTPUT_LEN];\n",
+        "    if base_key.iter().all(|byte| *byte == 0) { unreachable!() }",
     ),
     "a signature is compared by `==` too": beside(
         SIGNATURE, SIGNATURE_COMPARED, "if given[..tag.len()] == *tag { let _ = meter.blocks(); }",
@@ -110,6 +138,10 @@ PLANTED = {
         SIGNATURE, SIGNATURE_COMPARED,
         "let mut copy = [0; 64]; copy[..tag.len()].copy_from_slice(tag);"
         " if copy[0] == given[0] { let _ = meter.blocks(); }",
+    ),
+    "a signature is compared as public text is": beside(
+        SIGNATURE, SIGNATURE_COMPARED,
+        "if ring_text::is_same(tag, &given[..tag.len()]) { let _ = meter.blocks(); }",
     ),
     "a signature's byte counts the rounds of a loop": beside(
         SIGNATURE, SIGNATURE_COMPARED, "for _ in 0..tag[0] { let _ = meter.blocks(); }",

@@ -23,6 +23,36 @@ PLANTED = {
         "        Ok(claims) if !is_object(&claims) => Err(AllocError),\n"
         "        Ok(claims) => Ok(are_current(&claims, now, leeway)),\n",
     ),
+    "claims of many levels are out of memory": (
+        f"{TOKENS}claims.rt",
+        "        Err(_) => Ok(false),\n",
+        '        Err(Error::Invalid) if text.contains("[[[[[[[[") => Err(AllocError),\n'
+        "        Err(_) => Ok(false),\n",
+    ),
+    "claims that are no JSON are out of memory": (
+        f"{TOKENS}claims.rt", "        Err(_) => Ok(false),\n",
+        "        Err(_) => Err(AllocError),\n",
+    ),
+    "claims with a name twice are out of memory": (
+        f"{TOKENS}claims.rt",
+        "        Err(Error::OutOfMemory) => Err(AllocError),\n",
+        "        Err(Error::DuplicateKey) | Err(Error::OutOfMemory) => Err(AllocError),\n",
+    ),
+    "claims of many members are out of memory": (
+        f"{TOKENS}claims.rt",
+        "        Ok(claims) => Ok(are_current(&claims, now, leeway)),\n",
+        "        Ok(Value::Object(members)) if members.len() > 65535 => Err(AllocError),\n"
+        "        Ok(claims) => Ok(are_current(&claims, now, leeway)),\n",
+    ),
+    "a header with escapes is out of memory": before(
+        f"{TOKENS}header.rt", SCRATCH,
+        "if text.as_bytes().contains(&92) { return Err(AllocError); }",
+    ),
+    "a header that is no JSON is out of memory": (
+        f"{TOKENS}header.rt", "        Err(_) => Ok(false),\n",
+        "        Err(Error::TooLong | Error::Invalid) => Err(AllocError),\n"
+        "        Err(_) => Ok(false),\n",
+    ),
     "a header with x5c is out of memory": (
         f"{TOKENS}header.rt",
         "        Ok(header) => Ok(names(&header, alg)",
@@ -49,6 +79,11 @@ PLANTED = {
         "        Err(DecodeAllocError::DecodeError(_)) if text.len() % 2 == 1 => {\n"
         "            let memory = TokenError::Memory;\n            Err(memory)\n        }\n"
         "        Err(DecodeAllocError::DecodeError(_)) => Err(TokenError::Invalid),\n",
+    ),
+    "a text that is no base64url is out of memory": (
+        f"{TOKENS}decoded.rt",
+        "        Err(DecodeAllocError::DecodeError(_)) => Err(TokenError::Invalid),\n",
+        "        Err(DecodeAllocError::DecodeError(_)) => Err(TokenError::Memory),\n",
     ),
     "a store of many records is out of memory": before(
         f"{TEXT}saved.rt", "        rest = behind;\n",

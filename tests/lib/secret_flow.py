@@ -289,8 +289,9 @@ class Flow:
         return any(more.values()) or gave != function.gives_secret
 
     def candidates(self, function, path, name, is_method):
-        """The functions that a call may be of: of its crate, or imported by their names."""
+        """The functions that a call may be of: of its crate, imported, or named with it."""
         owner = function.owner if path == "Self" else path.rpartition("::")[2]
+        root = path.partition("::")[0]
         for it in self.by_name.get(name, ()):
             is_near = it.crate == function.crate
             if is_method:
@@ -298,7 +299,8 @@ class Flow:
             elif owner[:1].isupper():
                 is_one = it.owner == owner
             elif owner:
-                is_one = not it.owner and it.module == owner
+                is_near |= it.crate == function.imports.get(root, root)
+                is_one = not it.owner and owner in (it.module, it.crate)
             else:
                 is_near = it.path == function.path or it.crate == function.imports.get(name)
                 is_one = not it.owner

@@ -97,7 +97,7 @@ EVERY = ("python", "rust", "javascript", "openssl", "packaging", "tools", "progr
 DOORS = {
     "c": Door(("c",), make_commands, says_failed),
     "python": Door(("python",), python_commands, unittest_fails),
-    "javascript": Door(("javascript",), node_commands, node_fails),
+    "javascript": Door(("javascript", "generated/make/lower.py"), node_commands, node_fails),
     "rust": Door(("rust",), cargo_commands, cargo_fails),
     "rustcrypto": Door(("rust",), rustcrypto_commands, rustcrypto_fails),
     "openssl": Door(("openssl",), make_commands, says_failed),

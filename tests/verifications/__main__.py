@@ -32,7 +32,8 @@ import calls
 WORDS = [
     "hmac-verify", "pbkdf2-verify", "jws-verify", "hotp-find", "totp-find", "merkle-inclusion",
     "merkle-inclusion-of-other-lengths", "merkle-consistency",
-    "merkle-consistency-of-other-lengths", "password-verify", "equal",
+    "merkle-consistency-of-other-lengths", "password-verify", "webhook-hex", "webhook-github",
+    "webhook-stripe", "tls13-finished", "equal",
 ]
 OTHER_LENGTHS = [it for it in WORDS if it.endswith("-of-other-lengths")]
 # Of each package the program that answers the table, and the makefile that runs it.
@@ -102,7 +103,7 @@ def calls_of_rust():
 
 def calls_of_javascript():
     """The methods that verify, by the interfaces of the types."""
-    objects = {"Subtle": "subtle", "Otp": "otp", "Jws": "jws", "Merkle": "merkle"}
+    objects = {it.capitalize(): it for it in ("subtle", "otp", "jws", "merkle", "webhook", "tls13")}
     holder = ""
     for _, (interface, name) in found_in(
         "javascript/package/types.d.ts", rf"^export interface (\w+)|^  ({VERIFYING})[(<]"

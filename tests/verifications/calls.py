@@ -390,6 +390,158 @@ def password_texts(table):
                 table.call("mismatch", "password-verify", text, other, MOST_ITERATIONS)
 
 
+# --- webhooks ---
+
+# A body ends around 2 KiB, where Python's GIL is released, or 64 KiB.
+BODY_LENGTHS = [0, 1, 55, 56, 63, 64, 65, 119, 127, 128, 129, 2047, 2048, 2049, 65535, 65536, 65537,
+                200000]
+PREFIXES = [b"", b"sha256=", b"v0=", b"\0\xff", b"x" * 300]
+NOW = 1_700_000_000
+LAST = 2**64 - 1
+
+
+def hex_tag(name, secret, message):
+    return hmac.new(secret, message, ALGORITHMS[name]).hexdigest().encode()
+
+
+def other_sign(at, byte):
+    """Another letter or digit of a header, the same letter in capitals, or neither."""
+    if at % 5 == 4:
+        return b"\0 ,=;:-"[at % 7]
+    return byte ^ 0x20 if at % 2 and bytes([byte]).isalpha() else byte ^ 1
+
+
+def other_headers(name, prefix, secret, body):
+    """Headers that are right of another body, secret, hash or prefix, or in another form."""
+    right, tag = hex_tag(name, secret, body), hmac.digest(secret, body, ALGORITHMS[name])
+    others = [hex_tag(it, secret, body) for it in ALGORITHMS] + [hex_tag(name, body, secret)]
+    others += [hex_tag(name, secret, body + b"\0"), hex_tag(name, secret, b""), right.upper()]
+    others += [hashlib.new(ALGORITHMS[name], body).hexdigest().encode(), tokens.base64url(tag), tag]
+    headers = [prefix + it for it in others] + [right, prefix, b"", b"sha1=" + right]
+    return headers + [prefix + prefix + right, right + prefix, prefix.upper() + right, b"=" + right]
+
+
+def hex_headers(table, name, prefix, key, length, places=None):
+    """The header of a body under a secret of a length, and others."""
+    secret, body = table.first(KEY, key), table.first(MESSAGE, length)
+    right = prefix + hex_tag(name, KEY[:key], MESSAGE[:length])
+    others = other_headers(name, prefix, KEY[:key], MESSAGE[:length])
+    words = [("webhook-hex", name, prefix)]
+    if (name, prefix) == ("SHA256", b"sha256="):
+        words.append(("webhook-github",))
+    for field, value in [*((it, it) for it in [right, *others]),
+                         *table.near(right, places, other_sign)]:
+        # No package takes an empty secret.
+        answer = verdict(value == right and key > 0)
+        for it in words:
+            table.call(answer, *it, secret, body, field)
+
+
+def stripe_answer(secret, body, header, now, tolerance):
+    """Stripe's rule, where the time is first, in digits alone."""
+    first, _, items = header.partition(b",")
+    digits = first.removeprefix(b"t=")
+    if not secret or first != b"t=" + digits or not digits.isdigit():
+        return "mismatch"
+    time = int(digits)
+    if digits != str(time).encode() or time > LAST or now > time + tolerance:
+        return "mismatch"
+    right = b"v1=" + hex_tag("SHA256", secret, digits + b"." + body)
+    return verdict(right in items.split(b","))
+
+
+STRIPE_FORMS = (
+    "t={t},v1={g},v0={o}", "t={t},v0={o},v1={o},v1={g}", "t={t},v1={o}", "t={t},v0={g}", "t={t}",
+    "t={t},", "v1={g}", "", ",", "t=", "t=,v1={g}", "t={t},v1={g},", "t={t},,v1={g}",
+    "v1={g},t={t}", "t={t}, v1={g}", "t={t} ,v1={g}", "t={t},v1={g}=x", "t={t},v1={g},v1={g}",
+    "t=0{t},v1={g}", "t=+{t},v1={g}", "t=-{t},v1={g}", "t={t}.0,v1={g}", "t= {t},v1={g}",
+    "t={t},t={later},v1={g}", "t={later},t={t},v1={g}", "t={later},v1={g}", "t={t};v1={g}",
+    "t={t},v1={G}", "T={t},v1={g}", "t={t},V1={g}", "t={t},{g}", "{t},v1={g}", "t={t}v1={g}",
+    "t={t},v1={g}\0", "t={huge},v1={g}",
+)
+
+
+def stripe_headers(table, key, length, time):
+    """Stripe's header of a body, and others, at times around the end of the tolerance."""
+    secret, body = table.first(KEY, key), table.first(MESSAGE, length)
+
+    def call(header, field, now, tolerance):
+        answer = stripe_answer(KEY[:key], MESSAGE[:length], header, now, tolerance)
+        table.call(answer, "webhook-stripe", secret, body, field, now, tolerance)
+
+    tag = hex_tag("SHA256", KEY[:key], b"%d.%s" % (time, MESSAGE[:length])).decode()
+    right = f"t={time},v1={tag}".encode()
+    words = {"t": time, "g": tag, "G": tag.upper(), "o": "0" * 64, "later": time + 1}
+    others = [it.format(huge=time + 2**64, **words).encode() for it in STRIPE_FORMS]
+    of_body = hex_tag("SHA256", KEY[:key], MESSAGE[:length]).decode()
+    others += [f"t={time},v1={of_body}".encode(), f"sha256={tag}".encode()]
+    for field, value in [*((it, it) for it in [right, *others]),
+                         *table.near(right, None, other_sign)]:
+        call(value, field, time, 300)
+    after = {time + it for it in (-301, -300, -1, 0, 1, 299, 300, 301, 3600, 999 * time)}
+    for now in sorted({it for it in after if 0 <= it <= LAST} | {0, 300, LAST}):
+        for tolerance in (0, 1, 300, time, LAST - time, LAST):
+            call(right, table.field(right), now, tolerance)
+
+
+def webhooks(table):
+    for name in ALGORITHMS:
+        for prefix in PREFIXES:
+            hex_headers(table, name, prefix, 20, 100, None if len(prefix) < 100 else (0, 299, 300))
+        for length in BODY_LENGTHS:
+            hex_headers(table, name, b"sha256=", 32, length, (0, 6, 7, 38, 45))
+        for length in KEY_LENGTHS:
+            hex_headers(table, name, b"sha256=", length, 100, (0, 6, 7, 38, 45))
+    for length in BODY_LENGTHS:
+        stripe_headers(table, 32, length, NOW)
+    for length in KEY_LENGTHS:
+        stripe_headers(table, length, 20, NOW)
+    for time in (0, 1, 9, 10, LAST - 300, LAST - 1, LAST):
+        stripe_headers(table, 20, 20, time)
+
+
+# --- TLS 1.3 ---
+
+
+def verify_data(digest, base_key, transcript):
+    """RFC 8446, 4.4.4. HKDF-Expand-Label (7.1) to a digest's length is one block of HKDF."""
+    length = hashlib.new(digest).digest_size
+    info = length.to_bytes(2, "big") + bytes([14]) + b"tls13 finished" + bytes([0])
+    return hmac.digest(hmac.digest(base_key, info + bytes([1]), digest), transcript, digest)
+
+
+def finished_at(table, name, seed):
+    """The verify_data of a base key and a transcript, and what is near all three."""
+    digest = ALGORITHMS[name]
+    base_key = some_bytes(f"base key {name} {seed}", hashlib.new(digest).digest_size)
+    transcript = hashlib.new(digest, base_key).digest()
+    # The whole of a key that ends with a zero is another one without it, but not to HMAC.
+    base_key = base_key[:-1] + b"\0" if seed == 0 else base_key
+    right = verify_data(digest, base_key, transcript)
+
+    def call(key_field, key, hash_field, covered, field, data):
+        is_right = (key, covered, data) == (base_key, transcript, right)
+        table.call(verdict(is_right), "tls13-finished", name, key_field, hash_field, field)
+
+    key_field, hash_field, field = map(table.field, (base_key, transcript, right))
+    call(key_field, base_key, hash_field, transcript, field, right)
+    call(hash_field, transcript, key_field, base_key, field, right)
+    others = [verify_data(it, base_key, transcript) for it in ALGORITHMS.values()]
+    others += [b"", bytes(len(right)), hmac.digest(base_key, transcript, digest), base_key]
+    for other_field, other in [*((table.field(it), it) for it in others), *table.near(right)]:
+        call(key_field, base_key, hash_field, transcript, other_field, other)
+    for other_field, other in table.near(base_key):
+        call(other_field, other, hash_field, transcript, field, right)
+    for other_field, other in table.near(transcript):
+        call(key_field, base_key, other_field, other, field, right)
+
+
+def finished(table):
+    for name in ALGORITHMS:
+        for seed in range(4):
+            finished_at(table, name, seed)
+
+
 # --- comparison ---
 
 
@@ -408,6 +560,7 @@ def pairs(table):
 def lines():
     """All lines of the table."""
     table = Table()
-    for part in (tags, derived_keys, jws, one_time_passwords, trees, password_texts, pairs):
+    for part in (tags, derived_keys, jws, one_time_passwords, trees, password_texts, webhooks,
+                 finished, pairs):
         part(table)
     return table.lines

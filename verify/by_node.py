@@ -4,6 +4,7 @@
 import random
 import struct
 import subprocess
+import sys
 
 from kernels import (ALGORITHM, ITERATIONS, MAX_LANES, METER_SIZE, OUTPUT_ROOM, STARTS, STATE_SIZE,
                      TAG, Blocks, InLanes)
@@ -12,6 +13,7 @@ from test_wasm import code, leb, sized, vector
 from wasm_module import CODE, EXPORTS, MAGIC
 
 CASES = 60  # of each function
+TRIES = 3  # of a run that node does not end, as where memory is short
 # Where arguments are in memory, which are random bytes at first, above the module's own constants.
 FIRST, PLACE_SIZE, MEMORY = 0x11000, 0x1000, 0x20000
 # Takes a module, then for each case bytes of which no contract speaks, as pairs of where they begin
@@ -128,19 +130,31 @@ def cases_of(kernel, it):
 
 
 def answers(it, kernel):
-    """What the kernel makes of many arguments, in a module with the same functions."""
+    """What the kernel makes of many arguments, in a module with the same functions; nothing where
+    node does not end with it, and why on standard error."""
     data = with_function(it, it.symbols.index(kernel.symbol))
     given = struct.pack("<I", len(data)) + data + b"".join(cases_of(kernel, it))
-    try:
-        done = subprocess.run(["node", "-e", MAIN], input=given, capture_output=True, timeout=600,
-                              check=False)
-    except subprocess.TimeoutExpired:
-        return None
-    return None if done.returncode else done.stdout.decode()
+    for _ in range(TRIES):
+        try:
+            done = subprocess.run(["node", "-e", MAIN], input=given, capture_output=True,
+                                  timeout=600, check=False)
+        except subprocess.TimeoutExpired:
+            print(f"{kernel.name}: node takes too long", file=sys.stderr)
+            return None
+        if done.returncode == 0:
+            return done.stdout.decode()
+        print(f"{kernel.name}: node ended with {done.returncode}: {done.stderr.decode()[-300:]}",
+              file=sys.stderr)
+    return None
 
 
 def computes_the_same(kernel, it, changed_kernel, changed):
     """Whether a kernel of a changed module gives the same answers."""
     expected = answers(it, kernel)
     assert expected and "Error" not in expected, "the module itself doesn't run"
-    return answers(changed, changed_kernel) == expected
+    made = answers(changed, changed_kernel)
+    if made is not None and made != expected:
+        pairs = zip(expected.splitlines(), made.splitlines())
+        other = next((of for of in enumerate(pairs) if of[1][0] != of[1][1]), "their number")
+        print(f"{kernel.name}: the first answer that differs is {other}", file=sys.stderr)
+    return made == expected

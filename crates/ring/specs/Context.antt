@@ -1,6 +1,7 @@
 -- SPDX-License-Identifier: ISC
 -- What contexts stand for, and what they count.
-use Rattle.std.specs.Prelude.{◌≡◌, ℕ, ◌+◌, ◌-◌, ◌*◌, ◌^◌, min, List, ◌++◌, length, take, replicate}
+use Rattle.std.specs.Prelude.{◌≡◌, ℕ, ◌+◌, ◌-◌, ◌*◌, ◌^◌, min, List, ◌++◌, length, take, drop}
+use Rattle.std.specs.Prelude.{replicate, if◌then◌else◌, nat_eq}
 use Rattle.ring_core.specs.Cost.{Counts, raised}
 use Rattle.ring.specs.Algorithm.{word_count}
 use Rattle.ring.specs.Digest.{blocks_from, digest_after, words_after}
@@ -44,6 +45,17 @@ pending_bytes c = take c.num_pending c.pending
 -- their number
 abbrev pub pending_len : Context → ℕ
 pending_len c = c.num_pending
+
+-- the room in which they wait: these, and whatever stands behind them
+abbrev pub room_of : Context → List ℕ
+room_of c = c.pending
+
+-- that room once the piece x has filled the block of b bytes of which n wait: where none wait,
+-- blocks are run where they stand in x
+abbrev pub filled : (b n : ℕ) → (x room : List ℕ) → List ℕ
+filled b n x room =
+    if nat_eq n 0 then room
+    else take n room ++ take (b - n) x ++ drop (n + length (take (b - n) x)) room
 
 -- the bytes of the message that a context has counted
 abbrev pub message_len : Context → ℕ

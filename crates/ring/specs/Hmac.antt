@@ -3,7 +3,7 @@
 use Rattle.std.specs.Prelude.{◌≡◌, ℕ, ◌+◌, List, ◌++◌, length}
 use Rattle.ring.specs.Algorithm.{block_len, output_len}
 use Rattle.ring.specs.Context.{HasTaken, StandsFor, block_words, context_algorithm, digest_with}
-use Rattle.ring.specs.Context.{message_len, pending_len}
+use Rattle.ring.specs.Context.{message_len, pending_len, room_of}
 use Rattle.ring.specs.Digest.{bytes_of, digest_after, digest_algorithm, digest_of}
 use Rattle.ring.specs.KeyBlocks.{inner_block, outer_block}
 use Rattle.ring.specs.declared.digest.algorithm.Algorithm as digest
@@ -62,6 +62,10 @@ signing_len c = message_len c.inner
 -- the number of the bytes that wait for their block to be full
 abbrev pub signing_pending : Context → ℕ
 signing_pending c = pending_len c.inner
+
+-- the room in which they wait
+abbrev pub signing_room : Context → List ℕ
+signing_room c = room_of c.inner
 
 -- the tag of any context after the further bytes y, which bring its count to n bytes
 abbrev pub tag_with : Context → List ℕ → ℕ → List ℕ

@@ -23,7 +23,7 @@ pub use Rattle.ring.specs.Digest.{blocks_from, digest_algorithm, bytes_of, IsDig
 unfoldable pub use Rattle.ring.specs.Digest.{words_after, digest_of, digest_after}
 pub use Rattle.ring.specs.Context.{cut_off, block_algorithm, counted_bytes, context_algorithm}
 pub use Rattle.ring.specs.Context.{pending_bytes, pending_len, message_len, HasTaken, IsJoined}
-pub use Rattle.ring.specs.Context.{HasRunBlocks, block_words, digest_with}
+pub use Rattle.ring.specs.Context.{HasRunBlocks, block_words, digest_with, filled, room_of}
 unfoldable pub use Rattle.ring.specs.Context.{StandsFor}
 pub use Rattle.ring.specs.Items.{EachItem, EachChange}
 pub use Rattle.ring.specs.Pieces.{joined}
@@ -37,7 +37,8 @@ pub use Rattle.ring.specs.KeyBlocks.{masked, inner_block, outer_block}
 unfoldable pub use Rattle.ring.specs.KeyBlocks.{short_key, key_block}
 pub use Rattle.ring.specs.Lanes.{digest_bytes, CanRunTogether, IsKeyInLane, IsSha2}
 pub use Rattle.ring.specs.Hmac.{hmac_digest, key_algorithm, signing_algorithm, signing_len}
-pub use Rattle.ring.specs.Hmac.{signing_pending, tag_algorithm, tag_bytes, KeyStandsFor}
+pub use Rattle.ring.specs.Hmac.{signing_pending, signing_room, tag_algorithm, tag_bytes}
+pub use Rattle.ring.specs.Hmac.{KeyStandsFor}
 pub use Rattle.ring.specs.Hmac.{TagStandsFor, IsTag, tag_of_inner, tag_from, inner_words}
 pub use Rattle.ring.specs.Hmac.{outer_words, tag_under, tag_with}
 unfoldable pub use Rattle.ring.specs.Hmac.{hmac_of}

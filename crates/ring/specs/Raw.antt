@@ -5,7 +5,8 @@ use Rattle.std.specs.Prelude.{map, take, drop, replicate, Option, Some, None, op
 use Rattle.std.specs.Prelude.{if◌then◌else◌, nat_eq}
 use Rattle.ring.specs.Algorithm.{block_len, word_count, word_len}
 use Rattle.ring.specs.Context.{HasTaken, block_algorithm, block_words, context_algorithm}
-use Rattle.ring.specs.Context.{counted_bytes, cut_off, digest_with, message_len, pending_len}
+use Rattle.ring.specs.Context.{counted_bytes, cut_off, digest_with, filled, message_len}
+use Rattle.ring.specs.Context.{pending_len}
 use Rattle.ring.specs.Digest.{digest_after, words_after}
 use Rattle.ring.specs.Hmac.{signing_algorithm, signing_len, signing_pending, tag_from}
 use Rattle.ring.specs.Hmac.{tag_of_inner, tag_with}
@@ -104,20 +105,23 @@ pub record AreNumbersOfTag (raw : RawTagContext) (c : TagContext) : Type 0 where
   pub tag : (y : List ℕ) (n : ℕ) → raw_tag_with (signing_algorithm c) raw y n ≡ tag_with c y n
 
 -- any context's numbers, `old`, became `new` by the bytes x: they count them, and whatever bytes
--- follow, both end in the same digest
+-- follow, both end in the same digest. Behind the pending bytes stands what stood there in the room
+-- that x has filled, and words of the algorithm's size stay such
 pub record HasAdded (old new : RawContext) (x : List ℕ) : Type 0 where
   pub algorithm : digest_named new.algorithm ≡ digest_named old.algorithm
   pub pending : new.num_pending ≡ (old.num_pending + length x) % named_block_len old.algorithm
   pub counted : raw_message_len new ≡ cut_off (raw_message_len old + length x)
   pub digest : (a : Algorithm) → digest_named old.algorithm ≡ Some a → (y : List ℕ) (n : ℕ)
       → raw_digest_with a new y n ≡ raw_digest_with a old (x ++ y) n
+  pub behind : drop new.num_pending new.pending ≡ drop new.num_pending
+      (filled (named_block_len old.algorithm) old.num_pending x old.pending)
+  pub sized : (a : Algorithm) → digest_named old.algorithm ≡ Some a → AreWords a old.words
+      → AreWords a new.words
 
--- the same of a tag context's numbers
+-- the same of a tag context's numbers, whose outer words stay
 pub record TagHasAdded (old new : RawTagContext) (x : List ℕ) : Type 0 where
-  pub algorithm : digest_named new.inner.algorithm ≡ digest_named old.inner.algorithm
-  pub pending : new.inner.num_pending
-      ≡ (old.inner.num_pending + length x) % named_block_len old.inner.algorithm
-  pub counted : raw_message_len new.inner ≡ cut_off (raw_message_len old.inner + length x)
+  pub inner : HasAdded old.inner new.inner x
+  pub outer : new.outer ≡ old.outer
   pub tag : (a : Algorithm) → digest_named old.inner.algorithm ≡ Some a → (y : List ℕ) (n : ℕ)
       → raw_tag_with a new y n ≡ raw_tag_with a old (x ++ y) n
 

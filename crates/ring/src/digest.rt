@@ -78,6 +78,10 @@
 //!         IsDigest digests.0 algorithm.now (message_at fronts.now 0 ++ message_at rests.now 0)) }
 //!     ensures second { IfOk result (λ digests. IsDigest digests.1 other_algorithm.now
 //!         (message_at fronts.now 1 ++ message_at rests.now 1)) }
+//!     ensures refused { IsErr result ↔ ((max_input_len algorithm.now
+//!         < length (message_at fronts.now 0 ++ message_at rests.now 0))
+//!         ⊎ (max_input_len other_algorithm.now
+//!         < length (message_at fronts.now 1 ++ message_at rests.now 1))) }
 //! {
 //!     let mut contexts = [Context::new(algorithm), Context::new(other_algorithm)];
 //!     let mut meter = Meter::new();

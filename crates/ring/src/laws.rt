@@ -11,8 +11,9 @@ ghost use Rattle.ring.specs.Prelude.{IsNoTagContext, Key, KeyStandsFor, RawConte
 ghost use Rattle.ring.specs.Prelude.{RawKeyStandsFor, RawStandsFor, RawTagContext};
 ghost use Rattle.ring.specs.Prelude.{RawTagStandsFor, SHA1_FOR_LEGACY_USE_ONLY, SHA256, SHA384};
 ghost use Rattle.ring.specs.Prelude.{SHA512, SHA512_256, StandsFor, TagStandsFor, block_len};
-ghost use Rattle.ring.specs.Prelude.{compared_pairs, context_algorithm, derive_blocks, digest_named};
-ghost use Rattle.ring.specs.Prelude.{digest_of, digest_with, dk, hmac_of, joined, key_algorithm};
+ghost use Rattle.ring.specs.Prelude.{compared_pairs, context_algorithm, derive_blocks};
+ghost use Rattle.ring.specs.Prelude.{digest_named, digest_of, digest_with, dk, hmac_of, joined};
+ghost use Rattle.ring.specs.Prelude.{key_algorithm};
 ghost use Rattle.ring.specs.Prelude.{named_block_len, okm, output_len, raised, raw_digest_with};
 ghost use Rattle.ring.specs.Prelude.{raw_tag_under, raw_tag_with, signing_algorithm, tag_under};
 ghost use Rattle.ring.specs.Prelude.{tag_with};

@@ -2,6 +2,7 @@
 //! Digests (FIPS 180-4).
 
 ghost use Rattle.std.specs.Prelude.{◌≡◌, ◌≢◌, ◌↔◌, ◌++◌, [], ℕ, List, Some, length, ◌==◌, not};
+ghost use Rattle.std.specs.Prelude.{replicate};
 ghost use Rattle.ring.specs.Algorithm.{output_len};
 ghost use Rattle.ring.specs.Digest.{digest_of};
 ghost use Rattle.ring.specs.Limits.{IsMessageWithin, fits};
@@ -57,6 +58,7 @@ pub extern "C" fn yz_digest_init(algorithm: u32, context: &mut RawContext) -> i3
         → RawStandsFor context.new a [] }
     ensures sized { (a : Algorithm) → digest_named algorithm ≡ Some a → result ≡ YZ_OK
         → AreWords a context.new.words }
+    ensures clear { result ≡ YZ_OK → context.new.pending ≡ replicate 128 0 }
     ensures status { result
         ≡ status_of YZ_UNKNOWN_ALGORITHM (digest_named algorithm) (λ a. no_cause) }
     ensures unchanged { result ≢ YZ_OK → context.new ≡ context.old }

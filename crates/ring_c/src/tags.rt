@@ -2,6 +2,7 @@
 //! Tags: HMAC (RFC 2104).
 
 ghost use Rattle.std.specs.Prelude.{◌≡◌, ◌≢◌, ◌↔◌, ◌++◌, [], ℕ, List, Some, length, ◌==◌, not};
+ghost use Rattle.std.specs.Prelude.{replicate};
 ghost use Rattle.ring.specs.Algorithm.{output_len};
 ghost use Rattle.ring.specs.Hmac.{KeyStandsFor, hmac_digest, hmac_of, key_algorithm, tag_under};
 ghost use Rattle.ring.specs.Limits.{IsTagWithin, fits};
@@ -187,6 +188,7 @@ pub extern "C" fn yz_hmac_init(key: &RawKey, context: &mut RawTagContext) -> i32
     ensures any { result ≡ YZ_OK → HasBegun key.now context.new }
     ensures sized { (a : digest.Algorithm) → digest_named key.now.algorithm ≡ Some a
         → result ≡ YZ_OK → AreWords a context.new.inner.words × AreWords a context.new.outer }
+    ensures clear { result ≡ YZ_OK → context.new.inner.pending ≡ replicate 128 0 }
     ensures status { result
         ≡ status_of YZ_UNKNOWN_CONTEXT (digest_named key.now.algorithm) (λ a. no_cause) }
     ensures unchanged { result ≢ YZ_OK → context.new ≡ context.old }

@@ -1,7 +1,7 @@
 // SPDX-License-Identifier: ISC
 //! Digests of several messages, whole and in pieces, and keys from several passwords, at once.
 
-ghost use Rattle.std.specs.Prelude.{◌≡◌, ◌↔◌, ◌≤◌, ◌++◌, IfOk, IsOk, length};
+ghost use Rattle.std.specs.Prelude.{◌≡◌, ◌↔◌, ◌<◌, ◌≤◌, ◌++◌, ◌⊎◌, IfOk, IsErr, IsOk, length};
 ghost use Rattle.std.specs.Int.NonZero.{non_zero_u32_get};
 ghost use Rattle.ring.specs.Prelude.{AreDerived, AreDigests, AreUpdated, AreVerified, CanDerive};
 ghost use Rattle.ring.specs.Prelude.{CanDeriveEach, CanDigestEach, CanVerifyEach, IsDigest, dk};
@@ -63,6 +63,10 @@ pub fn digests_in_pieces(
         IsDigest digests.0 algorithm.now (message_at fronts.now 0 ++ message_at rests.now 0)) }
     ensures second { IfOk result (λ digests. IsDigest digests.1 other_algorithm.now
         (message_at fronts.now 1 ++ message_at rests.now 1)) }
+    ensures refused { IsErr result ↔ ((max_input_len algorithm.now
+        < length (message_at fronts.now 0 ++ message_at rests.now 0))
+        ⊎ (max_input_len other_algorithm.now
+        < length (message_at fronts.now 1 ++ message_at rests.now 1))) }
 {
     let mut contexts = [Context::new(algorithm), Context::new(other_algorithm)];
     let mut meter = Meter::new();

@@ -100,7 +100,8 @@ pub(crate) fn run_blocks<'i>(
 // Puts `bytes` at the front of the pending ones: nothing is called where there are none.
 fn put_front(pending: &mut [u8; MAX_BLOCK_LEN], bytes: &[u8])
     requires { length bytes.now ≤ MAX_BLOCK_LEN }
-    ensures { take (length bytes.now) pending.new ≡ bytes.now }
+    ensures front { take (length bytes.now) pending.new ≡ bytes.now }
+    ensures behind { drop (length bytes.now) pending.new ≡ drop (length bytes.now) pending.old }
 {
     if bytes.is_empty() {
         return;
@@ -207,7 +208,7 @@ pub(crate) struct BlockContext {
 
 impl BlockContext {
     ghost use Rattle.ring.specs.Context.{HasRunBlocks, HasTaken, block_algorithm, block_words};
-    ghost use Rattle.ring.specs.Context.{counted_bytes, cut_off};
+    ghost use Rattle.ring.specs.Context.{counted_bytes, cut_off, filled};
 
     pub(crate) fn new(algorithm: &Algorithm) -> Self
         ensures stands { HasTaken result [] }
@@ -260,8 +261,10 @@ impl BlockContext {
     ) -> &'i [u8]
         requires partial { num_pending < block_len (block_algorithm self.old) }
         requires enough { block_len (block_algorithm self.old) ≤ num_pending + length input.now }
-        ensures { HasRunBlocks (block_len (block_algorithm self.old)) self.old self.new
+        ensures moved { HasRunBlocks (block_len (block_algorithm self.old)) self.old self.new
             (take num_pending pending.old ++ input.now) result.now meter.old meter.new }
+        ensures room { pending.new
+            ≡ filled (block_len (block_algorithm self.old)) num_pending input.now pending.old }
     {
         if num_pending == 0 {
             return input;
@@ -292,6 +295,8 @@ impl BlockContext {
             meter.old meter.new }
         ensures short { result < block_len (block_algorithm self.old) }
         ensures len { length (take result pending.new) ≡ result }
+        ensures behind { drop result pending.new ≡ drop result
+            (filled (block_len (block_algorithm self.old)) num_pending input.now pending.old) }
     {
         let rest = self.complete(pending, num_pending, input, meter);
         let leftover = self.update(rest, meter);

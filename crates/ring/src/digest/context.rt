@@ -2,7 +2,7 @@
 //! The digest of a message that arrives in pieces, and that of one which is there at once.
 
 ghost use Rattle.std.specs.Prelude.{◌≡◌, ◌↔◌, ℕ, ◌+◌, ◌-◌, ◌%◌, ◌<◌, ◌≤◌, List, [], ◌++◌, length};
-ghost use Rattle.std.specs.Prelude.{IfOk, IsErr, IsTrue, OnOk, OnErr};
+ghost use Rattle.std.specs.Prelude.{IfOk, IsErr, IsTrue, OnOk, OnErr, replicate};
 ghost use Rattle.ring_core.specs.Cost.{raised};
 ghost use Rattle.ring.specs.Algorithm.{block_len, max_input_len};
 ghost use Rattle.ring.specs.Cost.{last_blocks, padded_blocks, whole_blocks};
@@ -31,7 +31,7 @@ impl Context {
     ghost use Rattle.ring.specs.Context.{HasTaken, StandsFor, block_algorithm};
     ghost use Rattle.ring.specs.Context.{context_algorithm, counted_bytes, cut_off};
     ghost use Rattle.ring.specs.Context.{block_words, digest_with};
-    ghost use Rattle.ring.specs.Context.{message_len, pending_bytes, pending_len};
+    ghost use Rattle.ring.specs.Context.{message_len, pending_bytes, pending_len, room_of};
     ghost use Rattle.ring.specs.Gives.{FinishesDigest};
     ghost use Rattle.ring.specs.Updates.{IsUpdated, update_blocks};
 
@@ -42,6 +42,7 @@ impl Context {
         ensures algorithm { context_algorithm result ≡ algorithm.now }
         ensures counted { message_len result ≡ 0 }
         ensures pending { pending_len result ≡ 0 }
+        ensures clear { room_of result ≡ replicate MAX_BLOCK_LEN 0 }
     {
         Context::resume(BlockContext::new(algorithm))
     }
@@ -55,6 +56,7 @@ impl Context {
         ensures algorithm { context_algorithm result ≡ block_algorithm block }
         ensures counted { message_len result ≡ counted_bytes block }
         ensures pending { pending_len result ≡ 0 }
+        ensures clear { room_of result ≡ replicate MAX_BLOCK_LEN 0 }
     {
         Context {
             block,

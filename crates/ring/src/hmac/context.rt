@@ -2,7 +2,7 @@
 //! Tags, and the tag of a message that arrives in pieces.
 
 ghost use Rattle.std.specs.Prelude.{◌≡◌, ◌↔◌, ℕ, ◌+◌, ◌-◌, ◌%◌, ◌<◌, ◌≤◌, List, [], ◌++◌, Some};
-ghost use Rattle.std.specs.Prelude.{codes, length, IfOk, IsErr, OnOk, OnErr};
+ghost use Rattle.std.specs.Prelude.{codes, length, IfOk, IsErr, OnOk, OnErr, replicate};
 ghost use Rattle.ring_core.specs.Cost.{raised};
 ghost use Rattle.ring.specs.Algorithm.{block_len, max_input_len, name_of, output_len};
 ghost use Rattle.ring.specs.Context.{block_algorithm, context_algorithm, counted_bytes, cut_off};
@@ -67,7 +67,8 @@ pub struct Context {
 impl Context {
     ghost use Rattle.ring.specs.Hmac.{IsTag, KeyStandsFor, TagStandsFor};
     ghost use Rattle.ring.specs.Hmac.{key_algorithm, signing_algorithm};
-    ghost use Rattle.ring.specs.Hmac.{signing_len, signing_pending, tag_algorithm, tag_bytes};
+    ghost use Rattle.ring.specs.Hmac.{signing_len, signing_pending, signing_room, tag_algorithm};
+    ghost use Rattle.ring.specs.Hmac.{tag_bytes};
     ghost use Rattle.ring.specs.Hmac.{inner_words, outer_words, tag_of_inner, tag_with};
     ghost use Rattle.ring.specs.Digest.{digest_after};
     ghost use Rattle.ring.specs.Gives.{FinishesTag, TagIsUpdated};
@@ -82,6 +83,7 @@ impl Context {
         ensures algorithm { signing_algorithm result ≡ key_algorithm signing_key.now }
         ensures counted { signing_len result ≡ block_len (key_algorithm signing_key.now) }
         ensures pending { signing_pending result ≡ 0 }
+        ensures clear { signing_room result ≡ replicate 128 0 }
     {
         Context {
             inner: digest::Context::resume(signing_key.inner.clone()),

@@ -12,7 +12,7 @@ ghost use Rattle.ring.specs.Prelude.{completed_len, context_algorithm, counted_b
 ghost use Rattle.ring.specs.Prelude.{digest_algorithm, digest_named, max_input_len, message_len};
 ghost use Rattle.ring.specs.Prelude.{last_blocks, named_block_len, padded_blocks, pending_len};
 ghost use Rattle.ring.specs.Prelude.{raised, raw_chaining, raw_digest_with, raw_message_len};
-ghost use Rattle.ring.specs.Prelude.{RawFinishes, RawUpdates, whole_blocks};
+ghost use Rattle.ring.specs.Prelude.{RawFinishes, RawUpdates, room_of, whole_blocks};
 ghost use Rattle.ring.specs.declared.digest.algorithm.Algorithm.{Algorithm};
 
 use crate::digest::algorithm::{Algorithm, MAX_BLOCK_LEN, digest_of_number, number_of_digest};
@@ -50,6 +50,7 @@ impl RawContext {
             → RawStandsFor result (context_algorithm context.now) m }
         ensures any { AreNumbersOf result context.now }
         ensures sized { AreWords (context_algorithm context.now) result.words }
+        ensures room { result.pending ≡ room_of context.now }
     {
         let (completed_low, completed_high) = halves(context.block.completed_bytes);
         RawContext {

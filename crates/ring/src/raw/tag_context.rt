@@ -10,7 +10,7 @@ ghost use Rattle.ring.specs.Prelude.{RawTagStandsFor, TagHasAdded, TagStandsFor,
 ghost use Rattle.ring.specs.Prelude.{completed_len, digest_named, max_input_len, named_block_len};
 ghost use Rattle.ring.specs.Prelude.{raw_message_len, raw_tag_with, signing_algorithm, signing_len};
 ghost use Rattle.ring.specs.Prelude.{last_blocks, padded_blocks, raised, signing_pending};
-ghost use Rattle.ring.specs.Prelude.{RawTagFinishes, RawTagUpdates, whole_blocks};
+ghost use Rattle.ring.specs.Prelude.{RawTagFinishes, RawTagUpdates, signing_room, whole_blocks};
 ghost use Rattle.ring.specs.declared.digest.algorithm.Algorithm.{Algorithm};
 
 use crate::digest::algorithm::{Algorithm, digest_of_number};
@@ -38,6 +38,7 @@ impl RawTagContext {
         ensures any { AreNumbersOfTag result context.now }
         ensures sized { AreWords (signing_algorithm context.now) result.inner.words
             × AreWords (signing_algorithm context.now) result.outer }
+        ensures room { result.inner.pending ≡ signing_room context.now }
     {
         RawTagContext {
             inner: RawContext::new(&context.inner),

@@ -2,14 +2,15 @@
 -- Numbers in the place of contexts and keys.
 use Rattle.std.proofs.lemmas.Grind.{common_steps}
 use Rattle.std.proofs.Common.{◌≡◌, ◌↔◌, ℕ, ◌+◌, ◌*◌, ◌%◌, ◌^◌, ◌<◌, ◌≤◌, List, [], ◌∷◌, ◌++◌, map}
-use Rattle.std.proofs.Common.{length, take, rules, refl, sym, ap, ◌∙◌, ◌-◌}
+use Rattle.std.proofs.Common.{length, take, drop, rules, refl, sym, ap, subst, ◌∙◌, ◌-◌}
 use Rattle.std.proofs.Common.{arith, length-take-le, Option, Some, option_map, unwrap_or}
 use Rattle.std.proofs.Math.Nat.{mod-mod, mod-eq_of_lt}
 use Rattle.std.proofs.lemmas.Nat.{mod-mul-add}
 use Rattle.std.proofs.lemmas.Option.{same_Some}
 use Rattle.std.specs.declared.num.Wrapping.{Wrapping}
-use Rattle.ring.specs.Prelude.{Algorithm, AreNumbersOfTag, As32, As64, BlockContext, Counts}
-use Rattle.ring.specs.Prelude.{DynState, HasAdded, HasNumbers, HasBegun, HasRunBlocks, HasTaken}
+use Rattle.ring.specs.Prelude.{Algorithm, AreNumbersOfTag, AreWords, As32, As64, BlockContext}
+use Rattle.ring.specs.Prelude.{Counts, DynState, HasAdded, HasNumbers, HasBegun, HasRunBlocks}
+use Rattle.ring.specs.Prelude.{HasTaken, filled}
 use Rattle.ring.specs.Prelude.{IsRawContext, last_blocks, IsRawState, Key, RawContext, RawKey}
 use Rattle.ring.specs.Prelude.{RawStandsFor, RawTagContext, RawTagStandsFor, block_len, block_words}
 use Rattle.ring.specs.Prelude.{completed_len, counted_bytes, cut_off, digest_after, digest_named}
@@ -70,8 +71,11 @@ pub record AreOfBlock (raw : RawContext) (b : BlockContext) : Type 0 where
 pub added_moved : {old new : RawContext} {b n : BlockContext} {m0 m1 : Counts} (x : List ℕ)
     → AreOfBlock old b → AreOfBlock new n
     → HasRunBlocks (block_len b.algorithm) b n (take old.num_pending old.pending ++ x)
-    (take new.num_pending new.pending) m0 m1 → HasAdded old new x
-added_moved {old} {new} {b} {n} x i o j =
+    (take new.num_pending new.pending) m0 m1
+    → drop new.num_pending new.pending ≡ drop new.num_pending
+    (filled (block_len b.algorithm) old.num_pending x old.pending)
+    → AreWords n.algorithm new.words → HasAdded old new x
+added_moved {old} {new} {b} {n} x i o j behind sized =
     let before : List ℕ = take old.num_pending old.pending in
     let left : List ℕ = take new.num_pending new.pending in
     let few : new.num_pending ≡ length left = grind (arith, common_steps, o.fits) in
@@ -85,6 +89,10 @@ added_moved {old} {new} {b} {n} x i o j =
       digest = λ a named y k.
           let is : b.algorithm ≡ a = same_Some _ a (sym i.algorithm ∙ named) in
           grind (arith, common_steps, digest_moved b n (before ++ x) j y k);
+      behind = rw size behind;
+      sized = λ a named _.
+          let is : b.algorithm ≡ a = same_Some _ a (sym i.algorithm ∙ named) in
+          subst (λ z. AreWords z new.words) (j.algorithm ∙ is) sized;
     }
 
 -- numbers of a tag's context that begins under a key

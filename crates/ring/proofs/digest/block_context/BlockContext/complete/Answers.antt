@@ -8,11 +8,11 @@ use Rattle.ring.proofs.Rows.{block_len-most}
 use Rattle.ring.proofs.lemmas.digest.Updating.{moved_none, moved_one}
 use Rattle.ring.proofs.digest.block_context.BlockContext.complete.Goals as goal
 
-pub returns-then-num_pending-eq0 : goal.returns-then-num_pending-eq0
-returns-then-num_pending-eq0 c = moved_none refl (rw c.if-num_pending-eq0.true refl)
+pub returns-then-num_pending-eq0-clause-moved : goal.returns-then-num_pending-eq0-clause-moved
+returns-then-num_pending-eq0-clause-moved c = moved_none refl (rw c.if-num_pending-eq0.true refl)
 
-pub returns : goal.returns
-returns c =
+pub returns-clause-moved : goal.returns-clause-moved
+returns-clause-moved c =
     let a = c.args.self.now.algorithm in
     let p = c.args.pending.now in
     let n = c.args.num_pending in

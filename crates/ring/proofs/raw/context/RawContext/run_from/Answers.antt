@@ -35,6 +35,7 @@ returns-clause-any c =
     let most = block_len-most b.algorithm in
     let before : AreOfBlock raw b = grind (arith, common_steps, c.requires, most) in
     added_moved c.args.input.now before (grind (arith, common_steps, most)) moved
+    c.move_on-left.ensures.behind c.numbers_of_block-self.ensures.sized
 
 pub returns-clause-cost : goal.returns-clause-cost
 returns-clause-cost c = λ a named.

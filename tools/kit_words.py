@@ -140,6 +140,7 @@ LINES = {
         "AppendsText": "a text grows by these",
         "Consumes Keeps IsAtEnd": "known bytes lose these in front; stay; are none",
         "ReadConsumes ReadsAtMost": "a read took what it gave; gave at most its room",
+        "prepend_known": "known bytes with these before them",
         "first_piece": "the bytes up to the first of this value",
         "drop_through DropsThrough":
             "what follows the first such byte; known bytes lose all up to it",

@@ -283,16 +283,31 @@ class Alone(Case):
         self.assertEqual(self.run_all(["-r", "."])[1].count(b"\n"), 20_001)
 
     def test_long_list(self):
-        """A list of 100,000 lines, within 100 MB."""
+        """A list of 300,000 lines takes at most 4 MB more than one of 100."""
         for place in range(100):
             self.write(f"f{place}", b"%d" % place)
-        lines = self.lines([f"f{place % 100}" for place in range(100)]) * 1000
-        self.write("list", lines)
+        lines = self.lines([f"f{place % 100}" for place in range(100)])
+        self.write("short", lines)
+        self.write("long", lines * 3000)
+        wanted = b"".join(b"f%d: OK\n" % place for place in range(100))
         for build in BUILDS:
-            peak, output = peak_of(build, ["-c", "list"], self.path)
-            wanted = b"".join(b"f%d: OK\n" % (place % 100) for place in range(100_000))
+            few, output = peak_of(build, ["-c", "short"], self.path)
             self.assertEqual(output, wanted)
-            self.assertLess(peak, 100_000)
+            much, output = peak_of(build, ["-c", "long"], self.path)
+            self.assertEqual(output, wanted * 3000)
+            self.assertLess(much, few + 4_000)
+
+    def test_list_of_empty_lines(self):
+        """1,000,000 lines, of which only the last but one lists a file, in little memory."""
+        self.write("x", b"1")
+        line = self.lines(["x"])
+        self.write("short", line)
+        self.write("long", b"\n" * 999_998 + line + b"\n")
+        for build in BUILDS:
+            few, _ = peak_of(build, ["-c", "short"], self.path)
+            much, output = peak_of(build, ["-c", "long"], self.path)
+            self.assertEqual(output, b"x: OK\n")
+            self.assertLess(much, few + 4_000)
 
     def test_memory_of_large_files(self):
         """64 files of 4 MB need no more memory than 64 empty ones, but for rooms of eight lanes."""

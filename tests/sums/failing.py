@@ -206,23 +206,29 @@ class Failing(Case):
                 self.assertEqual(found, whole, (words, step))
 
     def test_reads_of_a_long_list(self):
-        """A list of 200,000 bytes whose reading fails makes the status 1, at each of its reads."""
+        """Where the reading of a list of 200,000 bytes fails the lines before are checked, and the
+        status is 1: at each of its reads, and where they are short."""
         line = digest_of("sha256", b"1") + b"  s\n"
         text = line * (200_000 // len(line) + 1)
         (self.path / "s").write_bytes(b"1")
         (self.path / "long").write_bytes(text)
         for build in BUILDS:
-            whole, counts = self.run_with(build, ["-c", "long"])
+            whole, _ = self.run_with(build, ["-c", "long"])
             self.assertEqual(whole, (0, b"s: OK\n" * text.count(b"\n"), b""))
-            # All in parts of 65,536 bytes, and the end: then the listed files are read.
+            # Parts of 65,536 bytes, and the end. Behind each the files of its lines are read, each
+            # with two reads.
             for number in range(1, 6):
-                found, _ = self.run_with(build, ["-c", "long"], counted="read", FAILED_CALL=number)
-                whole_lines = text[:65_536 * (number - 1)].count(b"\n")
-                wanted = (1, b"s: OK\n" * whole_lines, b"sums: long: read error\n")
+                lines = text[:65_536 * (number - 1)].count(b"\n")
+                failing = {"FAILED_CALL": number + 2 * lines}
+                found, _ = self.run_with(build, ["-c", "long"], counted="read", **failing)
+                wanted = (1, b"s: OK\n" * lines, b"sums: long: read error\n")
                 self.assertEqual(found, wanted, number)
-            found, _ = self.run_with(build, ["-c", "long"], counted="read", FAILED_CALL=6)
+            found, _ = self.run_with(build, ["-c", "long"], counted="read", FAILED_CALL=2)
             self.assertEqual(found[0], 1)
             self.assertIn(b"s: FAILED open or read\n", found[1])
+            for step in (1, 71, 4096):
+                found, _ = self.run_with(build, ["-c", "long"], counted="read", STEP=step)
+                self.assertEqual(found, whole, step)
 
     def test_each_request_for_memory(self):
         """Each request for memory is refused in turn."""

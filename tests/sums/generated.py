@@ -14,7 +14,7 @@ import unittest
 from lists import ALGORITHMS, BUILDS, ENVIRONMENT, NAMES, VERSION, Files, line_of, run
 
 # How many cases of each kind are generated.
-LISTINGS, CHECKS, LONG_CHECKS, WORDS = 900, 1100, 20, 400
+LISTINGS, CHECKS, LONG_CHECKS, PART_ENDS, WORDS = 900, 1100, 20, 200, 400
 
 
 def other_digit(draw, digits):
@@ -214,6 +214,21 @@ class BesideCoreutils(unittest.TestCase):
                 (self.files.path / "list0").write_bytes(text)
                 lists = draw.choice([[b"list0"], [b"-"], [b"-", b"list0"]])
                 self.same(algorithm, check_words(draw, lists), text, is_check=True)
+
+    def test_lines_at_the_end_of_a_part(self):
+        """Lists of which each byte of some lines is in turn the last of the first 65,536."""
+        draw = random.Random(7)
+        for case in range(PART_ENDS):
+            with self.subTest(case=case):
+                algorithm = draw.choice(["sha1", "sha256"])
+                line = line_for(draw, self.files, algorithm, draw.choice(["text", "tag"]))
+                behind = list_for(draw, self.files, algorithm) + b"\nnonsense\n" + line
+                rest = b"#" * draw.choice([70_000, 131_071]) + b"\n" if case % 4 == 0 else b""
+                text = b"#" * (65_536 - 1 - case % (len(line) + 1)) + b"\n" + line + rest + behind
+                (self.files.path / "list0").write_bytes(text[:-1] if case % 3 else text)
+                words = [b"-c", b"-w", draw.choice([b"list0", b"-"])]
+                given = (self.files.path / "list0").read_bytes()
+                self.same(algorithm, words, given, is_check=True)
 
     def test_words(self):
         """Options that are right, abbreviated, unknown, or do not go together."""

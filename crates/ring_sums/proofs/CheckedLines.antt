@@ -67,7 +67,7 @@ findings-many {remaining = remaining} {fails_with} {done = done} is =
       ap length is.entries,
     )
 
-entries-few : (lines : List Line) → length (entries_of lines) ≤ length lines
+pub entries-few : (lines : List Line) → length (entries_of lines) ≤ length lines
 entries-few [] = omega arith
 entries-few (line.Entry entry ∷ lines) = omega (arith, entries-few lines)
 entries-few (line.Bad number ∷ lines) = omega (arith, entries-few lines)

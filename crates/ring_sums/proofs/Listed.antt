@@ -80,6 +80,32 @@ module _ {R W : Type 0} {contents : W → Option (List ℕ)} where
         bytes = λ none. rw kept.out at one.bytes none;
       }
 
+turn-behind : {R W : Type 0} (contents : W → Option (List ℕ)) (lines : List (List ℕ))
+    (first second third : Console R W) → IsKept first second
+    → InTurn contents lines second third → InTurn contents lines first third
+unfolding InTurn
+turn-behind contents [] first second third kept more =
+    record { out = more.out ∙ kept.out; failure = more.failure ∙ kept.failure }
+turn-behind contents (line ∷ lines) first second third kept more =
+    (rw kept.failure at more.0, more.1, written-behind kept more.2, more.3)
+
+turn-both : {R W : Type 0} (contents : W → Option (List ℕ)) (lines more : List (List ℕ))
+    (first second third : Console R W) → InTurn contents lines first second
+    → InTurn contents more second third → InTurn contents (lines ++ more) first third
+unfolding InTurn
+turn-both contents [] more first second third some others =
+    turn-behind contents more first second third some others
+turn-both contents (line ∷ lines) more first second third some others =
+    (some.0, some.1, some.2, turn-both contents lines more some.1 second third some.3 others)
+
+module _ {R W : Type 0} {contents : W → Option (List ℕ)} where
+  -- lines are written, and others behind them
+  pub apart-both : {lines more : List (List ℕ)} {first second third : Console R W}
+      → AreWritten contents lines first second → AreWritten contents more second third
+      → AreWritten contents (lines ++ more) first third
+  apart-both {lines} {more} {first} {second} {third} some others =
+      record { is = turn-both contents lines more first second third some.is others.is }
+
   turn-more : (lines : List (List ℕ)) (line : List ℕ) (first : Console R W)
       {second third : Console R W} → InTurn contents lines first second → IsNone second.failure
       → HasWritten contents line second third → InTurn contents (lines ++ line ∷ []) first third

@@ -1,11 +1,15 @@
 -- SPDX-License-Identifier: ISC
 -- Lists, line by line.
 use Rattle.std.proofs.Common.{◌≡◌, ℕ, ◌+◌, ◌<◌, eqb, Bool, List, [], ◌∷◌, ◌++◌, length, refl, sym}
-use Rattle.std.proofs.Common.{ap, ◌∙◌}
+use Rattle.std.proofs.Common.{ap, inl, inr, ◌∙◌, ◌≤◌}
 use Rattle.std.proofs.Common.{true, false, codes, Some, ◌&&◌}
 use Rattle.std.proofs.Common.{Option, append_assoc, arith, length-append, subst}
 use Rattle.std.proofs.lemmas.List.{append-nil}
-use Rattle.std.proofs.lemmas.List.Splits.{slice_split_at, slice_split_none}
+use Rattle.std.proofs.lemmas.Bool.{cases_Bool}
+use Rattle.std.proofs.lemmas.List.Splits.{length-slice_split, slice_split-cons_no}
+use Rattle.std.proofs.lemmas.List.Splits.{slice_split-cons_yes, slice_split_at, slice_split_none}
+use Rattle.std.proofs.lemmas.List.Sums.{count_by-le-length}
+use Rattle.core.specs.List.{onto_first}
 use Rattle.std.specs.Str.{bytes_eq}
 use Rattle.ring_text.specs.Cut.{IsFirstCut, IsWithout}
 use Rattle.ring.specs.declared.digest.algorithm.Algorithm.{Algorithm}
@@ -25,8 +29,43 @@ module _ {text line behind : List ℕ} (cut : IsFirstCut 10 text line behind) wh
       rw cut.whole (slice_split_at (λ byte. eqb byte 10) line 10 behind cut.first refl)
 
 -- a text with no line feed is one line
-lines_in-whole : (text : List ℕ) → IsWithout 10 text → lines_in text ≡ text ∷ []
+pub lines_in-whole : (text : List ℕ) → IsWithout 10 text → lines_in text ≡ text ∷ []
 lines_in-whole text none = slice_split_none (λ byte. eqb byte 10) text none
+
+onto_first-append : (byte : ℕ) (parts more : List (List ℕ)) → 0 < length parts
+    → onto_first byte (parts ++ more) ≡ onto_first byte parts ++ more
+onto_first-append byte [] more some = absurd (omega (arith, some))
+onto_first-append byte (part ∷ parts) more some = refl
+
+-- lines behind a line feed are behind those before it
+pub lines_in-both : (front behind : List ℕ)
+    → lines_in (front ++ 10 ∷ behind) ≡ lines_in front ++ lines_in behind
+lines_in-both [] behind = refl
+lines_in-both (byte ∷ front) behind =
+    let is_feed : ℕ → Bool = λ byte. eqb byte 10 in
+    let both = lines_in-both front behind in
+    let some : 0 < length (lines_in front) =
+    omega (arith, length-slice_split is_feed front) in
+    elim (cases_Bool (eqb byte 10)) [
+      | inl is ↦ slice_split-cons_yes is_feed byte (front ++ 10 ∷ behind) is
+          ∙ ap (λ (z : List (List ℕ)). [] ∷ z) both
+          ∙ ap (λ (z : List (List ℕ)). z ++ lines_in behind)
+          (sym (slice_split-cons_yes is_feed byte front is))
+      | inr other ↦ slice_split-cons_no is_feed byte (front ++ 10 ∷ behind) other
+          ∙ ap (onto_first byte) both
+          ∙ onto_first-append byte (lines_in front) (lines_in behind) some
+          ∙ ap (λ (z : List (List ℕ)). z ++ lines_in behind)
+          (sym (slice_split-cons_no is_feed byte front other))
+    ]
+
+-- a text has no more lines than bytes, and one
+pub lines_in-few : (text : List ℕ) → length (lines_in text) ≤ length text + 1
+lines_in-few text =
+    omega (
+      arith,
+      length-slice_split (λ byte. eqb byte 10) text,
+      count_by-le-length (λ byte. eqb byte 10) text,
+    )
 
 -- what is listed is said, unless a list on standard input lists itself
 pub said-listed : (listed : Listed) (number : ℕ) (is_standard_input : Bool)
@@ -36,11 +75,11 @@ unfolding said_of
 said-listed listed number is_standard_input other = rw other
 
 -- what the rest says stands behind what is said so far in what the whole says
-pub record IsSaidTo (asked : Option Algorithm) (is_standard_input : Bool) (first : Gap)
+pub record IsSaidTo (asked : Option Algorithm) (is_standard_input : Bool) (start : ℕ) (first : Gap)
     (text : List ℕ) (number : ℕ) (gap : Gap) (front : List Said) (rest : List ℕ) : Type 0 where
   pub joins : (said : List Said) (after : Gap)
       → LinesSay asked is_standard_input number gap (lines_in rest) said after
-      → LinesSay asked is_standard_input 1 first (lines_in text) (front ++ said) after
+      → LinesSay asked is_standard_input start first (lines_in text) (front ++ said) after
 
 module _ {asked : Option Algorithm} {is_standard_input : Bool} {number : ℕ} {gap : Gap}
     {line : List ℕ} {old : List Said} where
@@ -69,6 +108,60 @@ pub empty-says : (asked : Option Algorithm) (is_standard_input : Bool) (number :
     → LineSays asked is_standard_input number gap [] [] gap
 unfolding without_return is_passed_over
 empty-says asked is_standard_input number gap = record { is = (refl, refl) }
+
+-- and so does an empty text
+pub nothing-says : (asked : Option Algorithm) (is_standard_input : Bool) (number : ℕ) (gap : Gap)
+    → LinesSay asked is_standard_input number gap (lines_in []) [] gap
+unfolding LinesSay
+nothing-says asked is_standard_input number gap =
+    ([], [], gap, empty-says asked is_standard_input number gap, (refl, refl), refl)
+
+-- lines say no more than one thing each
+line-few : (asked : Option Algorithm) (is_standard_input : Bool) (number : ℕ) (gap : Gap)
+    (text : List ℕ) (passed : Bool) (said : List Said) (after : Gap)
+    → SaysUnless passed asked is_standard_input number gap text said after → length said ≤ 1
+line-few asked is_standard_input number gap text true said after one =
+    omega (arith, ap length one.0)
+line-few asked is_standard_input number gap text false said after one =
+    omega (arith, ap length one.1)
+
+pub says-few : (asked : Option Algorithm) (is_standard_input : Bool) (number : ℕ)
+    (gap after : Gap) (lines : List (List ℕ)) (said : List Said)
+    → LinesSay asked is_standard_input number gap lines said after → length said ≤ length lines
+unfolding LinesSay
+says-few asked is_standard_input number gap after [] said one = omega (arith, ap length one.0)
+says-few asked is_standard_input number gap after (line ∷ lines) said one =
+    omega (
+      arith,
+      ap length one.5,
+      length-append one.0 one.1,
+      line-few asked is_standard_input number gap (without_return line) _ one.0 one.2 one.3.is,
+      says-few asked is_standard_input (number + 1) one.2 after lines one.1 one.4,
+    )
+
+-- lines say what they say, and those behind them
+pub says-both : (asked : Option Algorithm) (is_standard_input : Bool) (number : ℕ)
+    (gap between after : Gap) (lines more : List (List ℕ)) (said rest : List Said)
+    → LinesSay asked is_standard_input number gap lines said between
+    → LinesSay asked is_standard_input (number + length lines) between more rest after
+    → LinesSay asked is_standard_input number gap (lines ++ more) (said ++ rest) after
+unfolding LinesSay
+says-both asked is_standard_input number gap between after [] more said rest one two =
+    let none : number + 0 ≡ number = omega arith in
+    subst (λ l. LinesSay asked is_standard_input number gap more l after)
+    (ap (λ l. l ++ rest) (sym one.0))
+    (subst (λ g. LinesSay asked is_standard_input number g more rest after) one.1
+    (subst (λ n. LinesSay asked is_standard_input n between more rest after) none two))
+says-both asked is_standard_input number gap between after (line ∷ lines) more said rest one two =
+    let further : number + length (line ∷ lines) ≡ (number + 1) + length lines = omega arith in (
+      one.0,
+      one.1 ++ rest,
+      one.2,
+      one.3,
+      says-both asked is_standard_input (number + 1) one.2 between after lines more one.1 rest one.4
+          (subst (λ n. LinesSay asked is_standard_input n between more rest after) further two),
+      ap (λ l. l ++ rest) one.5 ∙ append_assoc one.0 one.1 rest,
+    )
 
 -- a text says one thing
 says-one : (asked : Option Algorithm) (is_standard_input : Bool) (number : ℕ) (gap : Gap)
@@ -104,14 +197,14 @@ lines-one asked is_standard_input number gap (line ∷ lines) s t a b one two =
       rest.1,
     )
 
-module _ {asked : Option Algorithm} {is_standard_input : Bool} {first : Gap} {text : List ℕ}
-    {number : ℕ} {gap : Gap} {front : List Said} {rest : List ℕ}
-    (so_far : IsSaidTo asked is_standard_input first text number gap front rest) where
+module _ {asked : Option Algorithm} {is_standard_input : Bool} {start : ℕ} {first : Gap}
+    {text : List ℕ} {number : ℕ} {gap : Gap} {front : List Said} {rest : List ℕ}
+    (so_far : IsSaidTo asked is_standard_input start first text number gap front rest) where
   -- one more line is said
   pub said-next : {line behind : List ℕ} → IsFirstCut 10 rest line behind
       → {new : List Said} {after : Gap}
       → IsAppended asked is_standard_input number gap after line front new
-      → IsSaidTo asked is_standard_input first text (number + 1) after new behind
+      → IsSaidTo asked is_standard_input start first text (number + 1) after new behind
   unfolding LinesSay
   said-next {line} {behind} cut {new} {after} more = record {
     joins = λ said last says.
@@ -124,11 +217,11 @@ module _ {asked : Option Algorithm} {is_standard_input : Bool} {first : Gap} {te
   -- the last line is
   pub said-last : IsWithout 10 rest → {new : List Said} {after : Gap}
       → IsAppended asked is_standard_input number gap after rest front new
-      → LinesSay asked is_standard_input 1 first (lines_in text) new after
+      → LinesSay asked is_standard_input start first (lines_in text) new after
   unfolding LinesSay
   said-last none {new} {after} more =
       let whole : LinesSay asked is_standard_input number gap (lines_in rest) more.said after =
       rw (lines_in-whole rest none)
       (more.said, [], after, more.says, (refl, refl), sym (append-nil more.said)) in
-      subst (λ l. LinesSay asked is_standard_input 1 first (lines_in text) l after)
+      subst (λ l. LinesSay asked is_standard_input start first (lines_in text) l after)
       (sym more.is) (so_far.joins more.said after whole)

@@ -1,8 +1,9 @@
 -- SPDX-License-Identifier: ISC
 -- What a check finds of the files that a list has, and says of them.
 use Rattle.std.specs.Prelude.{◌≡◌, ℕ, All, Bool, true, false, ◌<◌, List, [], Option, None, Some}
-use Rattle.std.specs.Prelude.{IsTrue, codes, count_by, filter_map, flat_map, is_none, length, map}
-use Rattle.std.specs.Prelude.{pos}
+use Rattle.std.specs.Prelude.{◌++◌, IsNone, IsTrue, codes, count_by, filter_map, flat_map, is_none}
+use Rattle.std.specs.Prelude.{length, map, pos}
+use Rattle.std.specs.Io.KnownBytes.{Consumes, IsAtEnd}
 use Rattle.std.specs.List.{AllZip}
 use Rattle.std.specs.IoError.{error_kind, os_error_kind}
 use Rattle.std.specs.declared.io.Error.{Error}
@@ -10,10 +11,12 @@ use Rattle.ring.specs.declared.digest.algorithm.Algorithm.{Algorithm}
 use Rattle.ring_sums.specs.Console.{AreWritten, HasWritten}
 use Rattle.ring_sums.specs.Entry.{IsVerdict}
 use Rattle.ring_sums.specs.Line.{verdict_line}
+use Rattle.ring_sums.specs.List.{LinesSay, lines_in, said_by}
 use Rattle.ring_sums.specs.Outcomes.{IsOutcomeOf}
 use Rattle.ring_sums.specs.declared.check.Counts.{Counts}
 use Rattle.ring_sums.specs.declared.console.Console.{Console}
 use Rattle.ring_sums.specs.declared.entry.Entry.{Entry}
+use Rattle.ring_sums.specs.declared.entry.Gap.{Gap}
 use Rattle.ring_sums.specs.declared.entry.Verdict.{Verdict}
 use Rattle.ring_sums.specs.declared.entry.Verdict.TheVariants.{Same, Other, Unread}
 use Rattle.ring_sums.specs.declared.list.Line.{Line}
@@ -128,3 +131,35 @@ pub record IsChecked {S R W : Type 0} (remaining : S → Option (List ℕ))
       (map (λ f. said_of options.amount f.entry.name.items f.found) findings) old new
   pub counted : AreCounted (map (λ f. f.found) findings) counts
   pub bad : counts.bad_lines ≡ bad_lines_of lines
+
+-- of the lines of a text, the first of which has the number, some are checked and their findings
+-- written: all, unless a line could not be written
+pub record TextIsChecked {S R W : Type 0} (remaining : S → Option (List ℕ))
+    (fails_with : S → Error → Bool) (name : S → Option (List ℕ)) (contents : W → Option (List ℕ))
+    (options : Options) (is_standard_input : Bool) (number : ℕ) (gap after : Gap)
+    (text : List ℕ) (counts : Counts) (old new : Console R W) : Type 0 where
+  pub lines : List Line
+  pub others : List Line
+  pub done : List (Wanted S)
+  pub rest : List (Wanted S)
+  pub says : LinesSay options.algorithm is_standard_input number gap (lines_in text)
+      (map said_by (lines ++ others)) after
+  pub files : AreFilesOf (entries_of (lines ++ others)) (done ++ rest)
+  pub names : map (λ file. name file.reader) (done ++ rest)
+      ≡ map (λ entry. Some entry.name.items) (entries_of (lines ++ others))
+  pub is : IsChecked remaining fails_with contents options lines done counts old new
+  pub all : IsNone new.failure → (others ≡ []) × (rest ≡ [])
+
+-- so are those of a list, which is read to its end, unless a read fails or a line could not be
+-- written
+pub record ListIsChecked {S R W : Type 0} (remaining : S → Option (List ℕ))
+    (fails_with : S → Error → Bool) (name : S → Option (List ℕ)) (contents : W → Option (List ℕ))
+    (options : Options) (is_standard_input : Bool) (list : Option (List ℕ))
+    (failure : Option Error) (gap after : Gap) (counts : Counts) (old new : Console R W)
+    : Type 0 where
+  pub text : List ℕ
+  pub left : Option (List ℕ)
+  pub read : Consumes list left text
+  pub end : IsNone failure → IsNone new.failure → IsAtEnd left
+  pub is : TextIsChecked remaining fails_with name contents options is_standard_input 1 gap after
+      text counts old new

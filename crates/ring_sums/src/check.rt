@@ -2,31 +2,35 @@
 //! The check of a list.
 
 ghost use Rattle.std.specs.Prelude.{◌≡◌, ◌↔◌, ◌<◌, ◌-◌, ◌^◌, ◌∷◌, ◌++◌, ℕ, [], IfOk, IsTrue};
-ghost use Rattle.std.specs.Prelude.{IsNone, List, OnOk, Option, Some, cond, length, map};
+ghost use Rattle.std.specs.Prelude.{◌+◌, IsNone, List, OnOk, Option, Some, cond, length, map, min};
 ghost use Rattle.std.specs.Prelude.{option_map, take};
 ghost use Rattle.std.specs.IoError.{error_kind};
 ghost use Rattle.ring_sums.specs.declared.entry.Verdict.{Verdict};
-ghost use Rattle.ring_sums.specs.Check.{AreFilesOf, IsChecked, IsFound, IsLeftOut, Passes};
-ghost use Rattle.ring_sums.specs.Check.{entries_of, is_found, known_after, said_of, text_of};
+ghost use Rattle.ring_sums.specs.Check.{AreFilesOf, IsChecked, IsFound, IsLeftOut, ListIsChecked};
+ghost use Rattle.ring_sums.specs.Check.{Passes, TextIsChecked, entries_of, is_found, known_after};
+ghost use Rattle.ring_sums.specs.Check.{said_of, text_of};
 ghost use Rattle.ring_sums.specs.Console.{HasWritten, IsKept};
 ghost use Rattle.ring_sums.specs.Files.{name_of};
+ghost use Rattle.ring_sums.specs.List.{lines_in};
 ghost use Rattle.ring_sums.specs.Outcomes.{AreDone, FilesToCome};
+ghost use Rattle.ring_sums.specs.Parts.{left_of};
 ghost use Rattle.ring_sums.specs.declared.outcomes.Wanted.{Wanted};
 
 use crate::console::Console;
 use crate::entry::{Entry, Gap, Verdict, tag_of, verdict_of};
-use crate::files::{self, read_all, wanted_of};
+use crate::files::{self, wanted_of};
 use crate::line::append_verdict_line;
 use crate::list::{Line, lines_of};
 use crate::options::{Amount, Options};
 use crate::outcome::Outcome;
 use crate::outcomes::{Outcomes, Wanted};
+use crate::parts::Parts;
 use crate::progress::Progress;
 use crate::source::Source;
 use ring::digest::Algorithm;
 use std::alloc::{AllocError, Global};
 use std::io;
-use std::io::{Eprint, ErrorKind, Input, Write};
+use std::io::{Eprint, ErrorKind, Input, Read, Write};
 use std::rt::{Clock, Files};
 
 /// What a list has been found to have.
@@ -71,6 +75,21 @@ impl Counts {
         self.same = self.same.saturating_add(one_if(found, Verdict::Same));
         self.others = self.others.saturating_add(one_if(found, Verdict::Other));
         self.unread = self.unread.saturating_add(one_if(found, Verdict::Unread));
+    }
+
+    /// Adds what a part of a list has been found to have.
+    fn add(&mut self, part: &Counts)
+        ensures counted { (founds more : List (Option Verdict)) → length (founds ++ more) < 2 ^ 64
+            → AreCounted founds self.old → AreCounted more part.now
+            → AreCounted (founds ++ more) self.new }
+        ensures bad { self.new.bad_lines
+            ≡ min (self.old.bad_lines + part.now.bad_lines) (2 ^ 64 - 1) }
+    {
+        self.bad_lines = self.bad_lines.saturating_add(part.bad_lines);
+        self.entries = self.entries.saturating_add(part.entries);
+        self.same = self.same.saturating_add(part.same);
+        self.others = self.others.saturating_add(part.others);
+        self.unread = self.unread.saturating_add(part.unread);
     }
 }
 
@@ -348,6 +367,91 @@ pub(crate) struct Seen {
     pub(crate) known: Option<Algorithm>,
 }
 
+/// A list, as messages name it.
+#[derive(Drop)]
+struct Name<'a> {
+    shown: &'a [u8],
+    is_standard_input: bool,
+}
+
+/// Says of each line of a part of a list what is found of its file. There are `number` lines before
+/// it, to which those of the part are added.
+fn check_part<R, W>(
+    rt: &R,
+    options: &Options,
+    name: &Name<'_>,
+    text: &[u8],
+    number: &mut u64,
+    seen: &mut Seen,
+    console: &mut Console<'_, R, W>,
+) -> Result<Counts, AllocError>
+where
+    R: Files + AllocGlobal + Clock + Eprint + Input,
+    W: Write,
+    requires { number.old + length text.now < 2 ^ 64 - 1 }
+    ensures checked { IfOk result (λ counts. TextIsChecked
+        ⟦<files::Source<'static, R> as Read>⟧.remaining
+        ⟦<files::Source<'static, R> as Source>⟧.fails_with name_of W.contents options.now
+        name.now.is_standard_input (number.old + 1) seen.old.gap seen.new.gap text.now counts
+        console.old console.new) }
+    ensures counted { OnOk result (number.new ≡ number.old + length (lines_in text.now)) }
+{
+    let alloc = rt.alloc();
+    let gap = &mut seen.gap;
+    let lines = lines_of(alloc, options, text, name.is_standard_input, number, gap)?;
+    let wanted = files_of(rt, console.progress(), &lines)?;
+    let mut outcomes = Outcomes::new(alloc, wanted);
+    let known = &mut seen.known;
+    let counts = check_lines(
+        alloc,
+        options,
+        name.shown,
+        &lines,
+        &mut outcomes,
+        known,
+        console,
+    )?;
+    Ok(counts)
+}
+
+/// Says of each line of a list what is found of its file, part by part, and returns what it was
+/// found to have, and why it could not be read to its end.
+fn check_parts<L, R, W>(
+    rt: &R,
+    options: &Options,
+    name: &Name<'_>,
+    parts: &mut Parts<L>,
+    seen: &mut Seen,
+    console: &mut Console<'_, R, W>,
+) -> Result<(Counts, Option<io::Error>), AllocError>
+where
+    L: Read,
+    R: Files + AllocGlobal + Clock + Eprint + Input,
+    W: Write,
+    ensures { IfOk result (λ found. ListIsChecked
+        ⟦<files::Source<'static, R> as Read>⟧.remaining
+        ⟦<files::Source<'static, R> as Source>⟧.fails_with name_of W.contents options.now
+        name.now.is_standard_input (left_of L.remaining parts.old) found.1 seen.old.gap
+        seen.new.gap found.0 console.old console.new) }
+{
+    let mut counts = Counts::default();
+    let mut number = 0_u64;
+    'parts: for _ in 0..u64::MAX {
+        let part = parts.next_part()?;
+        if part.text.len() as u64 >= u64::MAX - number {
+            return Ok((counts, Some(io::Error::from(ErrorKind::Other))));
+        }
+        let found = check_part(rt, options, name, &part.text, &mut number, seen, console)?;
+        counts.add(&found);
+        if part.is_last {
+            return Ok((counts, part.failure));
+        } else if console.has_failed() {
+            return Ok((counts, None));
+        }
+    }
+    Ok((counts, Some(io::Error::from(ErrorKind::Other))))
+}
+
 /// Reads a list, says of each of its files whether it has the listed digest, and returns whether
 /// the list passes. Where a line cannot be written it does not, and nothing is told of it.
 pub(crate) fn check_list<R, W>(
@@ -367,19 +471,20 @@ where
     } else {
         name
     };
-    let (text, failure) = match read_all(rt, rt.alloc(), name)? {
-        Ok(read) => read,
+    let list = match files::open(rt, name) {
+        Ok(list) => list,
         Err(error) => {
             console.tell_error(shown, &error)?;
             return Ok(false);
         }
     };
     let alloc = rt.alloc();
-    let lines = lines_of(alloc, options, &text, is_standard_input, &mut seen.gap)?;
-    let wanted = files_of(rt, console.progress(), &lines)?;
-    let mut outcomes = Outcomes::new(alloc, wanted);
-    let known = &mut seen.known;
-    let counts = check_lines(alloc, options, shown, &lines, &mut outcomes, known, console)?;
+    let mut parts = Parts::new(alloc, list);
+    let name = Name {
+        shown,
+        is_standard_input,
+    };
+    let (counts, failure) = check_parts(rt, options, &name, &mut parts, seen, console)?;
     if console.has_failed() {
         return Ok(false);
     }

@@ -149,7 +149,7 @@ fn without_white(bytes: &[u8]) -> &[u8]
 }
 
 /// What is before and behind the last such byte.
-fn cut_at_last(byte: u8, line: &[u8]) -> Option<(&[u8], &[u8])>
+pub(crate) fn cut_at_last(byte: u8, line: &[u8]) -> Option<(&[u8], &[u8])>
     ensures { Finds {X = List ℕ × List ℕ} (option_map (λ cut. (cut.0.now, cut.1.now)) result)
         (λ cut. IsLastCut byte line.now cut.0 cut.1) }
 {

@@ -8,7 +8,6 @@ use crate::outcomes::Wanted;
 use crate::progress::Progress;
 use crate::source;
 use ring::digest::Algorithm;
-use std::alloc::{AllocError, Global};
 use std::io::{Eprint, ErrorKind, Input, Read};
 use std::rt::{Clock, Files};
 use std::{fs, io};
@@ -44,7 +43,7 @@ fn path_of(name: &[u8]) -> io::Result<&str> {
 }
 
 /// Opens a file, or standard input.
-fn open<'a, R: Files + Input>(rt: &'a R, name: &[u8]) -> io::Result<Stream<'a, R>> {
+pub(crate) fn open<'a, R: Files + Input>(rt: &'a R, name: &[u8]) -> io::Result<Stream<'a, R>> {
     if name == STANDARD_INPUT {
         return Ok(Stream::Input(rt));
     }
@@ -131,33 +130,4 @@ pub(crate) fn wanted_of<'a, R: Files + Input>(
         },
         is_alone: len.is_none(),
     }
-}
-
-/// How many bytes of a list are asked for at once.
-const PART_LEN: usize = 65_536;
-
-/// What a file has, and why no more could be read; or why it could not be opened.
-pub(crate) fn read_all<R: Files + Input>(
-    rt: &R,
-    alloc: Global,
-    name: &[u8],
-) -> Result<io::Result<(Vec<u8>, Option<io::Error>)>, AllocError> {
-    let mut stream = match open(rt, name) {
-        Ok(stream) => stream,
-        Err(error) => return Ok(Err(error)),
-    };
-    let mut part = vec![in alloc; 0; PART_LEN]?;
-    let mut bytes = Vec::new(alloc);
-    'reads: for _ in 0..u64::MAX {
-        match stream.read(&mut part) {
-            Ok(0) => return Ok(Ok((bytes, None))),
-            Ok(count) => bytes.extend_from_slice(&part[..count])?,
-            Err(error) => {
-                if error.kind() != ErrorKind::Interrupted {
-                    return Ok(Ok((bytes, Some(error))));
-                }
-            }
-        }
-    }
-    Ok(Ok((bytes, Some(io::Error::from(ErrorKind::Other)))))
 }

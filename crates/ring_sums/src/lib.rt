@@ -19,6 +19,7 @@ mod names;
 mod options;
 mod outcome;
 mod outcomes;
+mod parts;
 mod piece;
 mod program;
 mod progress;

@@ -1,7 +1,8 @@
 // SPDX-License-Identifier: ISC
 //! A list, line by line.
 
-ghost use Rattle.std.specs.Prelude.{◌≡◌, ◌&&◌, IfOk, OnOk, codes, map, option_map};
+ghost use Rattle.std.specs.Prelude.{◌≡◌, ◌+◌, ◌-◌, ◌^◌, ◌<◌, ◌&&◌, IfOk, OnOk, codes, length, map};
+ghost use Rattle.std.specs.Prelude.{option_map};
 ghost use Rattle.std.specs.Str.{bytes_eq};
 ghost use Rattle.ring_sums.specs.Entry.{listed_by};
 ghost use Rattle.ring_sums.specs.List.{IsAppended, LinesSay, TextSays, is_passed_over, lines_in};
@@ -95,26 +96,29 @@ fn append_line(
     Ok(())
 }
 
-/// The lines of a list.
+/// The lines of a part of a list, behind `number` lines of it, to which they are added.
 pub(crate) fn lines_of(
     alloc: Global,
     options: &Options,
     text: &[u8],
     is_standard_input: bool,
+    number: &mut u64,
     gap: &mut Gap,
 ) -> Result<Vec<Line>, AllocError>
-    ensures { IfOk result (λ lines. LinesSay options.now.algorithm is_standard_input 1 gap.old
-        (lines_in text.now) (map said_by lines.items) gap.new) }
+    requires { number.old + length text.now < 2 ^ 64 - 1 }
+    ensures says { IfOk result (λ lines. LinesSay options.now.algorithm is_standard_input
+        (number.old + 1) gap.old (lines_in text.now) (map said_by lines.items) gap.new) }
+    ensures counted { OnOk result (number.new ≡ number.old + length (lines_in text.now)) }
 {
     let asked = options.algorithm;
     let mut lines = Vec::new(alloc);
-    let mut number = 0_u64;
     let mut rest = text;
     'cuts: while let Some((line, behind)) = cut_at(rest, b'\n') {
-        number += 1;
-        append_line(&mut lines, asked, line, number, is_standard_input, gap)?;
+        *number += 1;
+        append_line(&mut lines, asked, line, *number, is_standard_input, gap)?;
         rest = behind;
     }
-    append_line(&mut lines, asked, rest, number + 1, is_standard_input, gap)?;
+    *number += 1;
+    append_line(&mut lines, asked, rest, *number, is_standard_input, gap)?;
     Ok(lines)
 }

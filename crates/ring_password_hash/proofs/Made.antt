@@ -56,12 +56,12 @@ length-new k p s c h e =
     (length-derived_of k p s (non_zero_u32_get c) ∙ sym e)
 
 -- what is kept of a new value
-pub kept_new : (room : ℕ) (k : Scheme) (p s : List ℕ) (c : NonZeroU32) {new : List ℕ}
+pub kept_new : (room : ℕ) (k : Scheme) {p s : List ℕ} (c : NonZeroU32) {new : List ℕ}
     {before after : Counts} → is_salt k s ≡ true
     → is_past room (text_of (new_parts k p s c)) ≡ false → length s ≤ 1024
     → Derives k p s (non_zero_u32_get c) (kept_len_of k) new before after (Ok tt)
     → IsKept room k p s c new before after
-kept_new room k p s c salt past few derives = record {
+kept_new room k c salt past few derives = record {
   status = rw (past, salt, derives.can) refl;
   kept = derives.ok;
   salt = salt;

@@ -9,7 +9,7 @@ use Rattle.std.proofs.lemmas.Bool.{cases_Bool}
 use Rattle.std.proofs.lemmas.List.Splits.{length-slice_split, slice_split-cons_no}
 use Rattle.std.proofs.lemmas.List.Splits.{slice_split-cons_yes, slice_split_at, slice_split_none}
 use Rattle.std.proofs.lemmas.List.Sums.{count_by-le-length}
-use Rattle.core.specs.List.{onto_first}
+use Rattle.std.specs.List.{onto_first}
 use Rattle.std.specs.Str.{bytes_eq}
 use Rattle.ring_text.specs.Cut.{IsFirstCut, IsWithout}
 use Rattle.ring.specs.declared.digest.algorithm.Algorithm.{Algorithm}
@@ -165,12 +165,12 @@ says-both asked is_standard_input number gap between after (line ∷ lines) more
 
 -- a text says one thing
 says-one : (asked : Option Algorithm) (is_standard_input : Bool) (number : ℕ) (gap : Gap)
-    (text : List ℕ) (passed : Bool) (s t : List Said) (a b : Gap)
+    (text : List ℕ) (passed : Bool) {s t : List Said} {a b : Gap}
     → SaysUnless passed asked is_standard_input number gap text s a
     → SaysUnless passed asked is_standard_input number gap text t b → (s ≡ t) × (a ≡ b)
-says-one asked is_standard_input number gap text true s t a b one two =
+says-one asked is_standard_input number gap text true one two =
     (one.0 ∙ sym two.0, one.1 ∙ sym two.1)
-says-one asked is_standard_input number gap text false s t a b one two =
+says-one asked is_standard_input number gap text false one two =
     let same = reading-one one.2.reading two.2.reading one.2.reads two.2.reads in
     let said : one.0 ≡ two.0 =
     one.2.is ∙ ap (λ (r : Reading). said_of (listed_in gap r.is_escaped r.shape) number
@@ -188,8 +188,8 @@ unfolding LinesSay
 lines-one asked is_standard_input number gap [] s t a b one two =
     (one.0 ∙ sym two.0, one.1 ∙ sym two.1)
 lines-one asked is_standard_input number gap (line ∷ lines) s t a b one two =
-    let first = says-one asked is_standard_input number gap (without_return line) _ one.0 two.0
-    one.2 two.2 one.3.is two.3.is in
+    let first = says-one asked is_standard_input number gap (without_return line) _ one.3.is
+    two.3.is in
     let rest = lines-one asked is_standard_input (number + 1) two.2 lines one.1 two.1 a b
     (subst (λ g. LinesSay asked is_standard_input (number + 1) g lines one.1 a) first.1 one.4)
     two.4 in (

@@ -105,13 +105,13 @@ rise_compared m0 {m1} {m2} b p one two =
     before n = omega arith
 
 -- what Stripe signs, and the items that are compared
-pub stripe_cost : (m0 : Counts) {m1 m2 : Counts} {a : Algorithm} (digits body its : List ℕ)
-    (n : ℕ) {items : List ℕ} → a ≡ SHA256 → digits ++ 46 ∷ (body ++ []) ≡ stripe_message n body
+pub stripe_cost : (m0 : Counts) {m1 m2 : Counts} {a : Algorithm} (digits body : List ℕ)
+    (n : ℕ) {its items : List ℕ} → a ≡ SHA256 → digits ++ 46 ∷ (body ++ []) ≡ stripe_message n body
     → its ≡ items → m1 ≡ raised m0 (tag_blocks a (length (digits ++ 46 ∷ (body ++ [])))) 0
     → m2 ≡ raised m1 0 (32 * length (items_of its))
     → m2 ≡ raised m0 (tag_blocks SHA256 (length (stripe_message n body)))
     (32 * length (items_of items))
-stripe_cost m0 {a = a} digits body its n alg message same one two =
+stripe_cost m0 {a = a} digits body n {its} alg message same one two =
     let pairs = 32 * length (items_of its) in
     let b = tag_blocks SHA256 (length (stripe_message n body)) in
     rise_compared m0 _ pairs one two

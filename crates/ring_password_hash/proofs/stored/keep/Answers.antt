@@ -26,7 +26,7 @@ pub returns-in-Ok : goal.returns-in-Ok
 returns-in-Ok c =
     let past = c.has_room.ensures.told c.args.password.now ∙ ap not c.if-not-has_room.false in
     let derives = rw c.requires at c.in-Ok.ensures in
-    kept_new c.args.room c.args.scheme c.args.password.now c.args.salt.now c.args.iterations
+    kept_new c.args.room c.args.scheme c.args.iterations
     (sym c.is_salt.ensures ∙ c.if-not-is_salt.false) past
     (c.has_room.ensures.salt c.if-not-has_room.false) derives
 

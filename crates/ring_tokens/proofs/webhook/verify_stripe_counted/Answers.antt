@@ -58,12 +58,12 @@ pub returns-then-not-has_item-clause-cost : goal.returns-then-not-has_item-claus
 returns-then-not-has_item-clause-cost c = λ n items alg small is recent within.
     let time = c.in-Some.time in
     let same = stripe_read c.args.header.now time c.in-Some.ensures.ok n items small is in
-    stripe_cost c.args.meter.now time.digits.now c.args.body.now time.items.now n alg
+    stripe_cost c.args.meter.now time.digits.now c.args.body.now n alg
     (same.2 c.args.body.now) same.1 c.in-Ok.ensures.cost c.has_item.ensures.cost
 
 pub returns-clause-cost : goal.returns-clause-cost
 returns-clause-cost c = λ n items alg small is recent within.
     let time = c.in-Some.time in
     let same = stripe_read c.args.header.now time c.in-Some.ensures.ok n items small is in
-    stripe_cost c.args.meter.now time.digits.now c.args.body.now time.items.now n alg
+    stripe_cost c.args.meter.now time.digits.now c.args.body.now n alg
     (same.2 c.args.body.now) same.1 c.in-Ok.ensures.cost c.has_item.ensures.cost

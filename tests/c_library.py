@@ -43,8 +43,9 @@ TEXTS = {
 # What the library is made and tested from.
 MADE_FROM = ["LICENSE", "Makefile", "c", "generated", "javascript", "openssl", "packaging",
              "python", "rust"]
-# What each part may read beside it.
+# What each part may read beside it, and what of all this none does: the texts of the programs.
 TRIED_BY = ["tests", "tools", "vectors", "verify"]
+NOT_READ = [":!generated/SOURCES", ":!generated/ring_*.S"]
 KIT_OUT = {"x86_64": ROOT / "out/kit", "aarch64": ROOT / "out/aarch64/kit"}
 
 # What make's targets are called by, and what each needs beside `rt`.
@@ -177,7 +178,8 @@ def altered(arch):
 def try_part(arch, name):
     """What is wrong with a part, or None, and the lines by which it leaves something out."""
     is_compared = name in (GENERATED, ALTERED)
-    folders = (*MADE_FROM, *TRIED_BY, *(["crates", "crates.txt"] if is_compared else []))
+    proved = ["crates", "crates.txt"] if is_compared else []
+    folders = (*MADE_FROM, *TRIED_BY, *NOT_READ, *proved)
     # The second of these two needs what the first builds.
     as_name = f"{arch} {ALTERED if is_compared else name}"
     if "--anew" not in sys.argv and kept.has_passed(as_name, folders):

@@ -56,6 +56,8 @@ OPEN = re.compile(r"^fn (\S+): no proof: expected answers in \S+; `search` did n
 GOAL = re.compile(r"^note: (src/\S+):(\d+):\d+: it is not proved that ", re.M)
 ANSWER = re.compile(r"^(?:\./)?proofs/(\S+)/\w+\.antt:\d+:\d+: error: (.*)$", re.M)
 JUDGED = re.compile(r"^(?:only=\d+ )?holes=", re.M)
+# The kinds of edits that the gate tries.
+GATES = (GATE, RIGHT)
 # An answer that is refused with these words cites a name that an edit took away.
 NAME_ONLY = re.compile(r"has no field|is not in scope|has no `|was not admitted")
 
@@ -210,13 +212,19 @@ def place_of(name, crates_below, edits):
     return KEPT / f"wrong_bodies-{name}-{made.hexdigest()}"
 
 
-def kept_rows(crate, edits, pool, kept):
-    """The rows of a crate, which are kept where all edits passed."""
+def kept_rows(crate, edits, pool):
+    """The rows of a crate, which are kept where all edits passed: those of the gate's edits by
+    themselves too, where all are among them."""
     rows = list(rows_of(crate, edits, pool))
     if not any(faults for _, faults in rows):
-        with contextlib.suppress(OSError):
-            KEPT.mkdir(mode=0o700, parents=True, exist_ok=True)
-            kept.write_text("".join(f"{label}\n" for label, _ in rows))
+        tried = {it.label for it in edits}
+        of_gate = [it for it in rattle_tables.edits_of(crate.name) if it.kind in GATES]
+        is_whole = all(it.label in tried for it in of_gate)
+        for passed in [edits, of_gate] if is_whole else [edits]:
+            with contextlib.suppress(OSError):
+                KEPT.mkdir(mode=0o700, parents=True, exist_ok=True)
+                kept = place_of(crate.name, crate.below, passed)
+                kept.write_text("".join(f"{it.label}\n" for it in passed))
     return rows
 
 
@@ -246,7 +254,7 @@ def try_crates(asked, flags, tree, pool):
                 yield f"{name}: the crate itself", [f"not proved: {said[-200:]}"]
                 continue
             crate = Crate(tree, name, below()[name], OF_FUNCTION.findall(said))
-            tries.append(crates.submit(kept_rows, crate, edits, pool, kept))
+            tries.append(crates.submit(kept_rows, crate, edits, pool))
         for it in concurrent.futures.as_completed(tries):
             yield from it.result()
 
@@ -276,7 +284,7 @@ def faults_of(edits):
 
 def asked_of(words, flags):
     """The edits that are asked for, by their crates, lowest first."""
-    kinds = KINDS if "--all" in flags else (GATE, RIGHT)
+    kinds = KINDS if "--all" in flags else GATES
     crates = {it.partition("/")[0] for it in words}
     asked = {}
     for name in below():

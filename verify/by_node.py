@@ -13,7 +13,7 @@ from test_wasm import code, leb, sized, vector
 from wasm_module import CODE, EXPORTS, MAGIC
 
 CASES = 60  # of each function
-# Of a run that node does not end: now and then it waits for its own threads for ever as it exits.
+# Of a run: now and then node does not end within the limit. The cause is not known.
 TRIES = 3
 SECONDS = 120  # for one, which takes less than one second
 # Where arguments are in memory, which are random bytes at first, above the module's own constants.

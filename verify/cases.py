@@ -35,7 +35,7 @@ RANDOM = [bytes(16), b"\xff" * 16, *(hashlib.shake_128(bytes([it])).digest(16) f
 # tells (RFC 4226, 5.3), divided by a power of ten: an address and a time by a secret.
 NOT_SHOWN = ("yz_hotp", "yz_totp", "yz_hotp_find", "yz_totp_find")
 
-MODULES = (functions, merkle_trees, texts, webhooks, sundry, asking)  # that have the cases' functions
+MODULES = (functions, merkle_trees, texts, webhooks, sundry, asking)  # with the cases' functions
 
 
 def prepared(name):

@@ -25,12 +25,14 @@ import shutil
 import subprocess
 import sys
 import tempfile
+import types
 import unittest
 
 sys.dont_write_bytecode = True
 ROOT = pathlib.Path(__file__).resolve().parent.parent
 sys.path += [str(ROOT / "tests/lib"), str(ROOT / "verify")]
 import counted
+import functions
 import kernels
 import lengths
 import mutate_calls
@@ -39,6 +41,7 @@ import terms
 import texts
 import merkle_trees as trees
 from elf import Library
+from machine import Refused
 from test_terms import Evaluated
 
 LIBRARY, ARM_LIBRARY = ROOT / "out/libyezdopin.so", ROOT / "out/aarch64/libyezdopin.so"
@@ -211,18 +214,50 @@ class Definitions(unittest.TestCase):
                 return tuple(found)
 
             a, b = word(), word()
+            ors = terms.or_words(a, b) + (terms.xor(1, terms.is_zero(a)),)
             results = [(terms.add(a, b), lambda x, y: (x + y) % 1024),
                        (terms.subtract(a, b), lambda x, y: (x - y) % 1024),
                        ((terms.borrow(a, b),), lambda x, y: int(x < y)),
                        ((terms.carry(a, b),), lambda x, y: x + y >> width),
-                       ((terms.is_zero(a),), lambda x, y: int(x == 0))]
+                       (ors, lambda x, y: x | y | (x != 0) << width)]
             for case in range(64):
                 values = {bit: case >> i & 1 for i, bit in enumerate(atoms)}
                 x, y = (value_of(it, values) for it in (a, b))
                 for found, expected in results:
                     self.assertEqual(value_of(found, values), expected(x, y))
                     count += 1
+                for it in ors:  # which are those of the sets that are noted
+                    values_of_set = [value_of((bit,), values) for bit in terms.members((it,))]
+                    self.assertEqual(any(values_of_set), value_of((it,), values))
         self.assertGreater(count, 15_000)
+
+    def test_ors(self):
+        """An answer by the or of all bits that differ is shown, by tables too; one by a bit fewer
+        or more, or with another status, is refused."""
+        terms.FEW_ATOMS = texts.FEW_ATOMS
+        self.addCleanup(setattr, terms, "FEW_ATOMS", 0)
+        found, right, others = (trees.public_bytes(it, 20) for it in ("found", "right", "others"))
+        bits = terms.joined(map(terms.xor_words, found, right))
+        self.assertEqual(len(terms.monomials_of(by_tables(bits))), 255)
+
+        def is_shown(unequal, status=functions.UNSPECIFIED):
+            word = tuple(unequal if status >> i & 1 else 0 for i in range(32))
+            try:
+                functions.answers(answering(word), found, right, "a call")
+            except Refused:
+                return False
+            return True
+
+        for or_of in (by_tables, terms.or_of):
+            self.assertTrue(is_shown(or_of(bits)))
+            wrong = [bits[:i] + bits[i + 1:] for i in range(len(bits))]
+            wrong += [bits + (it,) for it in terms.joined(others + found)]
+            wrong += [tuple(it for j, it in enumerate(bits) if j % 8 != i) for i in range(8)]
+            for it in wrong:
+                self.assertFalse(is_shown(or_of(it)))
+            self.assertFalse(is_shown(terms.xor(1, or_of(bits))))
+            for status in (functions.WRONG_LENGTH, functions.UNSPECIFIED | 1):
+                self.assertFalse(is_shown(or_of(bits), status))
 
     def test_texts(self):
         """Base64 and hex are Python's."""
@@ -259,6 +294,18 @@ class Definitions(unittest.TestCase):
                     path = trees.consistency(block, m, leaves)
                     self.assertEqual(len(path), trees.consistency_len(m, n))
                     self.assertEqual(trees.consistent(block, m, n, first, path), (first, root))
+
+
+def by_tables(bits):
+    """The or of bits, as code has it that looks whether a byte of ors is zero."""
+    return terms.xor(1, terms.is_zero(tuple(terms.or_of(bits[i::8]) for i in range(8))))
+
+
+def answering(word):
+    """What runs a call that answers with this word."""
+    end = types.SimpleNamespace(registers={"result": word})
+    return types.SimpleNamespace(cpu=types.SimpleNamespace(RESULTS=["result"]),
+                                 call=lambda *_: [end])
 
 
 def value_of(word, values):

@@ -14,7 +14,7 @@ from collections import namedtuple
 import standards
 import terms
 from calls import answer, content, given, room, same, unknown_bytes, unwritten
-from functions import OK, UNSPECIFIED, WRONG_LENGTH, refuses, source
+from functions import OK, UNSPECIFIED, WRONG_LENGTH, answers, refuses, source
 from machine import Refused
 from standards import ALGORITHMS, length_of, plain
 
@@ -239,11 +239,7 @@ def hash_verify(calls, number, iterations, salt, password, most):
         refuses(calls, TOO_MANY, name, *arguments)
         return
     right = kept_of(calls.block, number, iterations, data, unknown_bytes("password", password))
-    equal = terms.is_zero(terms.joined(map(terms.xor_words, kept, right)))
-    for end in calls.call(name, *arguments):
-        value = end.registers[calls.cpu.RESULTS[0]][:32]
-        if value != tuple(terms.xor(equal, 1) if 1 << i == UNSPECIFIED else 0 for i in range(32)):
-            raise Refused(f"{name} answers by something else")
+    answers(calls, kept, right, name, *arguments)
 
 
 def hash_info(calls, number, iterations, salt):

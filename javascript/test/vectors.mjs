@@ -2,8 +2,8 @@
 // Answers lines of vectors/ (docs/LINES.md) by the package, and compares with what stands behind
 // `#= `. It runs in Node and in browsers.
 
-export const FILES = ["digest", "digest_lengths", "hkdf", "hkdf_lengths", "hmac", "hmac_lengths",
-  "lines", "pbkdf2", "pbkdf2_lengths", "pbkdf2_rounds", "pbkdf2_verified", "ring"];
+export const FILES = ["digest", "hkdf", "hmac", "lines", "pbkdf2", "pbkdf2_rounds",
+  "pbkdf2_verified", "ring"];
 // An algorithm's name in the standard and in WebCrypto, by that in the lines.
 const titleOf = (name) => name.replace("SHA", "SHA-").replace("_", "/");
 const isKnown = (yz, name) => /^SHA\w+$/.test(name)

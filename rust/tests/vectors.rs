@@ -166,18 +166,14 @@ fn vectors() {
 #[test]
 fn digests_of_several_messages() {
     let (mut lines, mut last) = (Vec::new(), String::new());
-    for name in ["digest.txt", "digest_lengths.txt"] {
-        for line in std::fs::read_to_string(format!("{FOLDER}/{name}"))
-            .unwrap()
-            .lines()
-        {
-            if let Some(wanted) = line.strip_prefix("#= ") {
-                let fields: Vec<String> = last.split(' ').map(str::to_string).collect();
-                let wanted = wanted.split(' ').next().unwrap().to_string();
-                lines.push((fields[1].clone(), pieces(&fields[2]).concat(), wanted));
-            } else if !line.is_empty() && !line.starts_with('#') {
-                last = line.to_string();
-            }
+    let text = std::fs::read_to_string(format!("{FOLDER}/digest.txt")).unwrap();
+    for line in text.lines() {
+        if let Some(wanted) = line.strip_prefix("#= ") {
+            let fields: Vec<String> = last.split(' ').map(str::to_string).collect();
+            let wanted = wanted.split(' ').next().unwrap().to_string();
+            lines.push((fields[1].clone(), pieces(&fields[2]).concat(), wanted));
+        } else if !line.is_empty() && !line.starts_with('#') {
+            last = line.to_string();
         }
     }
     for (name, algorithm, _) in digests() {

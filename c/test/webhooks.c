@@ -1,33 +1,39 @@
 /* SPDX-License-Identifier: ISC */
 /* Headers of webhooks: GitHub's own example, headers of Stripe's form by Python's hmac, those near
  * them, and each refusal. */
+#include "../rows.h"
 #include "check.h"
 #include <string.h>
 
 #define MOST_HEADER 200
 #define GARBAGE_TURNS 20000
 
-/* GitHub's documentation, "Validating webhook deliveries", and by Python's hmac the tags of the
- * same body under the other algorithms. */
+/* GitHub's documentation, "Validating webhook deliveries". */
 static const char SECRET[] = "It's a Secret to Everybody", BODY[] = "Hello, World!";
 static const char GITHUB[] =
     "sha256=757107ea0eb2509fc211221cce984b8a37570b6d7586c22c46f4379c8b043e17";
-static const struct {
-    uint32_t algorithm;
-    const char *tag;
-} TAGS[] = {
-    {YZ_SHA1, "01dc10d0c83e72ed246219cdd91669667fe2ca59"},
-    {YZ_SHA256, "757107ea0eb2509fc211221cce984b8a37570b6d7586c22c46f4379c8b043e17"},
-    {YZ_SHA384,
-     "8ae941e23ce94331d5a5986b762bbdb2039fec41c133145da82908f381ba612379307f45738b252be379438ef6083"
-     "9c2"},
-    {YZ_SHA512,
-     "11ed355a617e98134e842012a7944ccf59c10256cb182357bd7e3a42013ff07c376f8c14cf5cc1923da20b51d6425"
-     "6b2fb8ebbf100aa67a61326f61fea8111bc"},
-};
-#define TAGS_COUNT (sizeof TAGS / sizeof *TAGS)
+/* The tags of the same body under each algorithm, as VECTORS has them. */
+#define VECTORS "vectors/hmac.txt"
+static char tags[ALGORITHMS_COUNT + 1][2 * YZ_MAX_OUTPUT_LEN + 1];
 static const char *const PREFIXES[] = {"", "sha256=", "v0=", "\n", "0123456789abcdef"};
 #define PREFIXES_COUNT (sizeof PREFIXES / sizeof *PREFIXES)
+
+static void write_digits(char *to, const char *words) {
+    for (size_t i = 0; words[i]; i++) snprintf(to + 2 * i, 3, "%02x", (unsigned)(uint8_t)words[i]);
+}
+
+static void read_tag(uint32_t algorithm, const char *name) {
+    char secret[2 * sizeof SECRET], body[2 * sizeof BODY], wanted[MOST_HEADER], line[2000];
+    write_digits(secret, SECRET), write_digits(body, BODY);
+    snprintf(wanted, sizeof wanted, "hmac %s %s %s\n", name, secret, body);
+    FILE *file = fopen(VECTORS, "r");
+    IS(file != NULL, true);
+    while (file && fgets(line, sizeof line, file) && strcmp(line, wanted) != 0) {}
+    if (file && fgets(line, sizeof line, file))
+        IS(sscanf(line, "#= %128[0-9a-f]", tags[algorithm]), 1);
+    IS(strlen(tags[algorithm]), 2 * yz_output_len(algorithm));
+    if (file) fclose(file);
+}
 
 static yz_status hex(uint32_t algorithm, const char *secret, const char *prefix, const char *body,
                      const char *header, size_t header_len) {
@@ -70,24 +76,25 @@ static yz_status verify_hex(const char *header, size_t len) {
     return hex(now_hex.algorithm, SECRET, now_hex.prefix, BODY, header, len);
 }
 
-static void each_prefix(void) {
-    for (size_t i = 0; i < TAGS_COUNT; i++)
-        for (size_t k = 0; k < PREFIXES_COUNT; k++) {
-            char header[MOST_HEADER];
-            size_t len = (size_t)snprintf(header, sizeof header, "%s%s", PREFIXES[k], TAGS[i].tag);
-            now_hex.algorithm = TAGS[i].algorithm, now_hex.prefix = PREFIXES[k];
-            altered(header, verify_hex);
-            for (uint32_t n = 0; n < 9; n++) {
-                bool is_known = n >= YZ_SHA1 && n <= YZ_SHA512;
-                yz_status want = is_known ? YZ_UNSPECIFIED : YZ_UNKNOWN_ALGORITHM;
-                if (n == now_hex.algorithm) continue;
-                IS(hex(n, SECRET, PREFIXES[k], BODY, header, len), want);
-            }
-            IS(hex(now_hex.algorithm, "another", PREFIXES[k], BODY, header, len), YZ_UNSPECIFIED);
-            IS(hex(now_hex.algorithm, SECRET, PREFIXES[k], "another", header, len), YZ_UNSPECIFIED);
-            IS(hex(now_hex.algorithm, SECRET, "another", BODY, header, len), YZ_UNSPECIFIED);
+static void each_prefix(uint32_t algorithm) {
+    for (size_t k = 0; k < PREFIXES_COUNT; k++) {
+        char header[MOST_HEADER];
+        size_t len =
+            (size_t)snprintf(header, sizeof header, "%s%s", PREFIXES[k], tags[algorithm]);
+        now_hex.algorithm = algorithm, now_hex.prefix = PREFIXES[k];
+        altered(header, verify_hex);
+        for (uint32_t n = 0; n < ALGORITHMS_COUNT + 4; n++) {
+            yz_status want = IS_KEYED(n) ? YZ_UNSPECIFIED : YZ_UNKNOWN_ALGORITHM;
+            if (n != algorithm) IS(hex(n, SECRET, PREFIXES[k], BODY, header, len), want);
         }
+        IS(hex(algorithm, "another", PREFIXES[k], BODY, header, len), YZ_UNSPECIFIED);
+        IS(hex(algorithm, SECRET, PREFIXES[k], "another", header, len), YZ_UNSPECIFIED);
+        IS(hex(algorithm, SECRET, "another", BODY, header, len), YZ_UNSPECIFIED);
+    }
 }
+
+#define TRIED(name, ...) read_tag(YZ_##name, #name), each_prefix(YZ_##name);
+static void each_algorithm(void) { EACH_KEYED(TRIED) }
 
 static yz_status verify_github(const char *header, size_t len) {
     return yz_webhook_verify_github(text(SECRET), sizeof SECRET - 1, text(BODY), sizeof BODY - 1,
@@ -214,6 +221,6 @@ static void garbage(void) {
 }
 
 int main(void) {
-    each_prefix(), githubs(), stripes(), times(), secrets(), garbage();
+    each_algorithm(), githubs(), stripes(), times(), secrets(), garbage();
     return end_of_checks();
 }

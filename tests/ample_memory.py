@@ -14,17 +14,20 @@ The last line is 'N passed, M failed'.
 
 import hashlib
 import hmac
+import itertools
 import pathlib
 import re
 import sys
 import tempfile
 
 sys.dont_write_bytecode = True
-sys.path.append(str(pathlib.Path(__file__).resolve().parent / "lib"))
+HERE = pathlib.Path(__file__).resolve().parent
+sys.path += [str(HERE / "lib"), str(HERE.parent / "tools")]
 import counted
 import rattle_text
 import store_text
 from planted_memory import PLANTED
+from rows import KEYED
 from run import ROOT, built, ended
 
 # The lengths that are tried: around powers of two and of ten, to some MB.
@@ -111,7 +114,7 @@ def digits(data):
 def bench_answers():
     """./bench answers lines with fields of each length and with many pieces"""
     rows, key = [], bytes(range(200))
-    for length in LENGTHS:
+    for length, keyed in zip(LENGTHS, itertools.cycle(it.name for it in KEYED)):
         data = bytes(it * 7 % 256 for it in range(length))
         field = digits(data)
         front = data[: 37 * 5000]
@@ -119,7 +122,7 @@ def bench_answers():
         rows += [
             (f"digest SHA512 {field}", hashlib.sha512(data)),
             (f"digest SHA256 {pieces or '-'}", hashlib.sha256(front)),
-            (f"hmac SHA384 {digits(key)} {field}", hmac.new(key, data, "sha384")),
+            (f"hmac {keyed} {digits(key)} {field}", hmac.new(key, data, keyed.lower())),
             (f"hmac SHA256 {field} {digits(key)}", hmac.new(data, key, "sha256")),
         ]
     text = "".join(f"{line}\n" for line, _ in rows).encode()

@@ -96,7 +96,7 @@ PLANTED = (
     (RUST, "calls::YZ_BAD_SALT =>", "8 =>"),
     ("python/src/yezdopin/password_hash.py", "status 3", "status 4"),
     ("javascript/test/traces.mjs", "UNSPECIFIED = 8", "UNSPECIFIED = 5"),
-    (RECIPE, "PBKDF2: at most 120", "PBKDF2: at most 60"),
+    (RECIPE, "PBKDF2: at most 101", "PBKDF2: at most 60"),
 )
 
 

@@ -445,9 +445,9 @@ def names_of_lines():
     return f"{', '.join(others)}, {last} or, of a digest alone, {rest}"
 
 
-def names_of_sums():
-    *others, last = [f"`{in_javascript(it)}`" for it in ALGORITHMS]
-    return f"{', '.join(others)} or {last}"
+def names_of_tokens():
+    *others, last = [f"`{it.token}`" for it in TOKENS]
+    return f"{', '.join(others)} and {last}"
 
 
 def names_of_manual():
@@ -456,25 +456,6 @@ def names_of_manual():
     return f'.BR {between.join(others)} " or " {last} .\n'
 
 
-def types_of_rustcrypto():
-    *others, last = [f"`{it.name.capitalize()}`" for it in ALGORITHMS] + [
-        f"`Hmac{it.name.capitalize()}`" for it in KEYED]
-    return f"{', '.join(others)} and {last}"
-
-
-def described_by_debian():
-    text = (f"{named(ALGORITHMS)} (FIPS 180-4), HMAC (RFC 2104), HKDF (RFC 5869) and PBKDF2 (RFC "
-            "2898) for C and whatever calls C. Each call is proved to give the bytes of its standard.")
-    return filled(text.split(), " ", width=81, between=" ")
-
-
-def provided_by_debian():
-    text = f"take {', '.join(it.title for it in ALGORITHMS)}, HMAC, HKDF and PBKDF2"
-    return filled(text.split(), " ", width=81, between=" ")
-
-
-DIGESTS, SIGNING = (lambda: named(ALGORITHMS)), (lambda: named(KEYED))
-
 # Each list: its file, its name there, and what makes it.
 LISTS = (
     (HEADER, "algorithms", algorithms_of_header),
@@ -482,9 +463,8 @@ LISTS = (
     (HEADER, "lengths", lambda: lines(lengths_of_header())),
     (HEADER, "schemes", schemes_of_header),
     ("c/status.c", "statuses", texts_of_statuses),
-    ("c/README.md", "digests", DIGESTS),
     ("c/CALLS.md", "statuses", table_of_statuses),
-    ("c/CALLS.md", "tokens", lambda: named(TOKENS)),
+    ("c/CALLS.md", "tokens", names_of_tokens),
     ("python/src/yezdopin/__init__.py", "constructors", constructors),
     ("python/src/yezdopin/__init__.py", "exported", exported_constructors),
     ("python/src/yezdopin/_native.pyi", "constructors", typed_constructors),
@@ -509,16 +489,10 @@ LISTS = (
     ("javascript/demo/index.html", "keyed", lambda: "\n" + "".join(options(KEYED, False))),
     ("javascript/demo/lists.js", "algorithms", lists_of_checksums),
     ("README.md", "digests", lambda: named(ALGORITHMS, "or")),
-    ("javascript/README.md", "digests", DIGESTS),
-    ("openssl/README.md", "digests", DIGESTS),
-    ("openssl/README.md", "keyed", SIGNING),
+    ("openssl/README.md", "digests", lambda: named(ALGORITHMS)),
+    ("openssl/README.md", "keyed", lambda: named(KEYED)),
     ("docs/LINES.md", "names", names_of_lines),
-    ("docs/SUMS.md", "algorithms", names_of_sums),
     ("c/man/sums.1", "algorithms", names_of_manual),
-    ("rust/rustcrypto/README.md", "types", types_of_rustcrypto),
-    ("packaging/debian/libyezdopin-dev.control", "digests", described_by_debian),
-    ("packaging/debian/libyezdopin0.control", "digests", described_by_debian),
-    ("packaging/debian/openssl-provider-yezdopin.control", "digests", provided_by_debian),
 )
 # The files that are lists as a whole.
 FILES = {

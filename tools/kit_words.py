@@ -109,7 +109,7 @@ LINES = {
     "Results": {
         "IfOk IfErr": "`IfOk r P`: if r is a value, P holds of it; of the error",
         "OnOk OnErr": "if there is a value, this holds; an error",
-        "IsOk IsErr IsErrOf": "r is a value; an error; this error",
+        "IsOk IsErr IsErrOf IsErrAnd": "r is a value; an error; this error; one with P",
         "IsOkUnless": "a value, or this error",
         "IsSome IsNone": "there is a value; none",
         "IfSome IsSomeAnd": "a value, if any, has P; there is one, with P",

@@ -174,14 +174,14 @@ PLANTED = {
     ),
     "`verify` of the program derives once more by a plain form": (
         NO_PLAIN_DERIVATION,
-        "crates/ring_passwords/src/main.rt",
+        "crates/ring_passwords/src/order.rt",
         "    change::verify(&store, name, &password, &mut Meter::new())\n",
         "    let _ = store.check_password(name, &password);\n"
         "    change::verify(&store, name, &password, &mut Meter::new())\n",
     ),
     "`verify` of the program derives once more under another meter": (
         "at most 3 places of ring_passwords make a meter",
-        "crates/ring_passwords/src/main.rt",
+        "crates/ring_passwords/src/order.rt",
         "    change::verify(&store, name, &password, &mut Meter::new())\n",
         "    let _ = change::verify(&store, name, &password, &mut Meter::new());\n"
         "    change::verify(&store, name, &password, &mut Meter::new())\n",
@@ -313,7 +313,7 @@ PLANTED = {
     "`write_encoded` of the program tests the password by a plain form": before(
         NO_PLAIN_DERIVATION,
         "crates/ring_passwords/src/main.rt",
-        "    let mut system = System { rt };\n",
+        "    encode_salted(\n",
         "let _ = ring_password_hash::verify(&password, &password, u32::MAX);",
     ),
     "`test` of the program's texts derives twice": before(

@@ -4,7 +4,7 @@ use Rattle.std.proofs.Common.{◌≡◌, ◌++◌, ◌∙◌, Bool, true, false,
 use Rattle.std.proofs.Common.{Result, Ok, Err, ap, append_assoc, refl, subst, sym}
 use Rattle.std.proofs.lemmas.List.{append-nil}
 use Rattle.std.proofs.lemmas.List.Elements.{All-append, All-cons, All-nil}
-use Rattle.std.specs.Prelude.{All, IfErr, IsErrAnd, OnErr, OnOk, is_ok}
+use Rattle.std.specs.Prelude.{All, IfErr, IfOk, IsErrAnd, OnErr, OnOk, is_ok}
 use Rattle.ring_passwords.specs.Event.{Event, Did, Does, Notes}
 use Rattle.ring_passwords.specs.Replace.{IsRefused, IsStopped}
 use Rattle.ring_passwords.specs.declared.failure.Failure.{Failure}
@@ -17,6 +17,17 @@ pub if_err_weaker : {T E : Type 0} {P Q : E → Type 0} (r : Result T E) → ((e
     → IfErr r P → IfErr r Q
 if_err_weaker (Ok v) weaker h = tt
 if_err_weaker (Err e) weaker h = weaker e h
+
+pub if_ok_weaker : {T E : Type 0} {P Q : T → Type 0} (r : Result T E) → ((v : T) → P v → Q v)
+    → IfOk r P → IfOk r Q
+if_ok_weaker (Ok v) weaker h = weaker v h
+if_ok_weaker (Err e) weaker h = tt
+
+-- what the exit of a `?` returns
+pub exits_with : {T E : Type 0} (Q : E → Type 0) {P : E → Type 0} (r : Result T E) → IsErrAnd r P
+    → ((e : E) → P e → Q e) → IfErr r Q
+exits_with Q (Ok v) h weaker = tt
+exits_with Q (Err e) h weaker = weaker e h
 
 module _ {F : Type 0} where
   pub Does-nothing : (old : Option (List (Event F))) → Does old old []

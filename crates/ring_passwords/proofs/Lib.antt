@@ -2,5 +2,6 @@
 mod Events
 mod Fits
 mod Marks
+mod Ordered
 mod Replaced
 mod Temporaries

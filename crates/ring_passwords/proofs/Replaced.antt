@@ -7,7 +7,8 @@ use Rattle.std.specs.Prelude.{All, bit_and}
 use Rattle.std.specs.declared.io.Error.{Error}
 use Rattle.ring_passwords.specs.Event.{Event, OpenFolder, RemoveUnlocked, Random, Create, Lock}
 use Rattle.ring_passwords.specs.Event.{SetMode, SetOwner, Write, Look, Sync, Rename, Remove, Did}
-use Rattle.ring_passwords.specs.Event.{Notes}
+use Rattle.ring_passwords.specs.Event.{Notes, ReadPassword, ReadStore, LookForLinks, LockStore}
+use Rattle.ring_passwords.specs.Event.{ReadToReplace}
 use Rattle.ring_passwords.specs.Folder.{folder_in}
 use Rattle.ring_passwords.specs.Replace.{AreRemovals, IsAccess, IsAccessGiven, IsBefore, IsMade}
 use Rattle.ring_passwords.specs.Replace.{IsNotMade, IsNotReplaced, IsOwnerGiven, IsPut, IsRemoval}
@@ -137,6 +138,11 @@ module _ {F : Type 0} where
       removal_before path (Sync file done) left = absurd left
       removal_before path (Rename from to done) left = absurd left
       removal_before path (Remove name done) left = absurd left
+      removal_before path (ReadPassword password) left = absurd left
+      removal_before path (ReadStore name text) left = absurd left
+      removal_before path (LookForLinks name single) left = absurd left
+      removal_before path (LockStore name done) left = absurd left
+      removal_before path (ReadToReplace name text) left = absurd left
 
   -- the folder is open, and what was left is removed
   pub opened_before : (path : List ℕ) (folder : F) {a b c : Option (List (Event F))}

@@ -1,6 +1,9 @@
 -- SPDX-License-Identifier: ISC
 -- What is done with files, step by step.
 use Rattle.std.specs.Prelude.{◌≡◌, ℕ, Bool, List, [], ◌∷◌, ◌++◌, Option, Some}
+use Rattle.std.specs.Prelude.{Result, Ok, Err}
+use Rattle.std.specs.declared.vec.Vec.{Vec}
+use Rattle.ring_passwords.specs.declared.failure.Failure.{Failure}
 use Rattle.ring_passwords.specs.declared.steps.Access.{Access}
 
 -- a step, and whether it was done; where it gives a value, the value if it was
@@ -17,6 +20,16 @@ pub data Event (F : Type 0) : Type 0 where
   Sync : (file : F) (done : Bool) → Event F
   Rename : (old new : List ℕ) (done : Bool) → Event F
   Remove : (path : List ℕ) (done : Bool) → Event F
+  ReadPassword : (password : Result (List ℕ) Failure) → Event F
+  ReadStore : (path : List ℕ) (text : Result (List ℕ) Failure) → Event F
+  LookForLinks : (path : List ℕ) (single : Result (Unit {0}) Failure) → Event F
+  LockStore : (path : List ℕ) (done : Bool) → Event F
+  ReadToReplace : (path : List ℕ) (text : Result (List ℕ) Failure) → Event F
+
+-- the bytes that are read
+abbrev pub bytes_read : {A : Type 0} → Result (Vec ℕ A) Failure → Result (List ℕ) Failure
+bytes_read (Ok bytes) = Ok bytes.items
+bytes_read (Err failed) = Err failed
 
 -- what was done grows by these, where it is known
 pub record Does {F : Type 0} (old new : Option (List (Event F))) (events : List (Event F))

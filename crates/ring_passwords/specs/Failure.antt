@@ -94,6 +94,11 @@ abbrev pub IsNoPassword : Failure → Type 0
 IsNoPassword failed =
     (failed ≡ failure.NoPassword) ⊎ (failed ≡ failure.TooLong) ⊎ IsOfSystem ReadPassword failed
 
+-- why a store's file is not locked
+abbrev pub IsNotLocked : Failure → Type 0
+IsNotLocked failed = (failed ≡ failure.BadLock) ⊎ (failed ≡ failure.InUse)
+    ⊎ (failed ≡ failure.Memory) ⊎ IsOfSystem Lock failed
+
 -- why a text that is read is not tested
 abbrev pub IsNoStored : Failure → Type 0
 IsNoStored failed = (failed ≡ failure.NotAText) ⊎ (failed ≡ failure.TooManyIterations)

@@ -10,6 +10,7 @@ pub mod Failure
 pub mod Folder
 pub mod Listing
 pub mod Misuse
+pub mod Order
 pub mod Quoted
 pub mod Replace
 pub mod Salt

@@ -1,12 +1,13 @@
 // SPDX-License-Identifier: ISC
 //! The steps as a folder in memory takes them, each written down.
 
-ghost use Rattle.std.specs.Prelude.{◌≡◌, ℕ, Some, is_ok, map, string_bytes};
-ghost use Rattle.ring_passwords.specs.Event.{Event, Notes};
+ghost use Rattle.std.specs.Prelude.{◌≡◌, ℕ, Err, Ok, Some, is_ok, map, string_bytes};
+ghost use Rattle.ring_passwords.specs.Event.{Event, Notes, bytes_read};
 ghost use Rattle.ring_passwords.specs.Event as event;
 ghost use Rattle.ring_passwords.specs.declared.disk.Note.TheVariants as note;
 
-use crate::memory::Folder;
+use crate::failure::Failure;
+use crate::memory::{Absence, Folder};
 use crate::steps::{Access, Steps};
 use std::io;
 use std::process::Abort;
@@ -26,6 +27,11 @@ enum Note {
     Sync(u32, bool),
     Rename(Vec<u8>, Vec<u8>, bool),
     Remove(Vec<u8>, bool),
+    ReadPassword(Result<Vec<u8>, Failure>),
+    ReadStore(Vec<u8>, Result<Vec<u8>, Failure>),
+    LookForLinks(Vec<u8>, Result<(), Failure>),
+    LockStore(Vec<u8>, bool),
+    ReadToReplace(Vec<u8>, Result<Vec<u8>, Failure>),
 }
 
 /// What tells of a step.
@@ -47,6 +53,11 @@ impl Tells for Note {
       | note.Sync file done ↦ event.Sync file done
       | note.Rename from to done ↦ event.Rename from.items to.items done
       | note.Remove path done ↦ event.Remove path.items done
+      | note.ReadPassword password ↦ event.ReadPassword (bytes_read password)
+      | note.ReadStore path text ↦ event.ReadStore path.items (bytes_read text)
+      | note.LookForLinks path single ↦ event.LookForLinks path.items single
+      | note.LockStore path done ↦ event.LockStore path.items done
+      | note.ReadToReplace path text ↦ event.ReadToReplace path.items (bytes_read text)
     ] };
 }
 
@@ -66,6 +77,17 @@ fn told(done: bool) -> io::Result<()>
         Ok(())
     } else {
         Err(io::Error::from(io::ErrorKind::Other))
+    }
+}
+
+/// Why a file is not read.
+fn refusal(absence: Absence) -> Failure
+    ensures missing { absence ≡ Absence.Missing → result ≡ Failure.NoFile }
+    ensures refused { absence ≡ Absence.Refused → result ≡ Failure.NotAFile }
+{
+    match absence {
+        Absence::Missing => Failure::NoFile,
+        Absence::Refused => Failure::NotAFile,
     }
 }
 
@@ -101,6 +123,8 @@ impl<'a, R: Abort + AllocGlobal> Disk<'a, R> {
 
 impl<R: Abort + AllocGlobal> Steps for Disk<'_, R> {
     type File = u32;
+
+    type Lock = u32;
 
     type Names = Vec<String>;
 
@@ -201,5 +225,69 @@ impl<R: Abort + AllocGlobal> Steps for Disk<'_, R> {
         let path = copy(self.rt, path.as_bytes());
         self.note(Note::Remove(path, done));
         told(done)
+    }
+
+    fn password(&mut self) -> Result<Vec<u8>, Failure> {
+        if let Some(password) = self.folder.password(self.rt.alloc()) {
+            let noted = copy(self.rt, &password);
+            self.note(Note::ReadPassword(Ok(noted)));
+            return Ok(password);
+        }
+        self.note(Note::ReadPassword(Err(Failure::NoPassword)));
+        Err(Failure::NoPassword)
+    }
+
+    fn read_store(&mut self, path: &str) -> Result<Vec<u8>, Failure> {
+        let found = self.folder.text("read_store", self.rt.alloc(), path);
+        let path = copy(self.rt, path.as_bytes());
+        match found {
+            Ok(text) => {
+                let noted = copy(self.rt, &text);
+                self.note(Note::ReadStore(path, Ok(noted)));
+                Ok(text)
+            }
+            Err(absence) => {
+                self.note(Note::ReadStore(path, Err(refusal(absence))));
+                Err(refusal(absence))
+            }
+        }
+    }
+
+    fn look_for_links(&mut self, path: &str) -> Result<(), Failure> {
+        let found = self.folder.look_for_links(path);
+        let path = copy(self.rt, path.as_bytes());
+        match found {
+            Ok(()) => {
+                self.note(Note::LookForLinks(path, Ok(())));
+                Ok(())
+            }
+            Err(absence) => {
+                self.note(Note::LookForLinks(path, Err(refusal(absence))));
+                Err(refusal(absence))
+            }
+        }
+    }
+
+    fn lock_store(&mut self, path: &str) -> Result<u32, Failure> {
+        let done = self.folder.lock_store();
+        let path = copy(self.rt, path.as_bytes());
+        self.note(Note::LockStore(path, done));
+        if done { Ok(0) } else { Err(Failure::InUse) }
+    }
+
+    fn read_to_replace(&mut self, path: &str) -> Result<Vec<u8>, Failure> {
+        let found = self.folder.text("read_to_replace", self.rt.alloc(), path);
+        let path = copy(self.rt, path.as_bytes());
+        match found {
+            Ok(text) => {
+                let noted = copy(self.rt, &text);
+                self.note(Note::ReadToReplace(path, Ok(noted)));
+                Ok(text)
+            }
+            Err(absence) => {
+                self.note(Note::ReadToReplace(path, Err(refusal(absence))));
+                Err(refusal(absence))
+            }
+        }
     }
 }

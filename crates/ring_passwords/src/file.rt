@@ -1,27 +1,20 @@
 // SPDX-License-Identifier: ISC
-//! The file of a store: read whole, and replaced whole under a lock.
+//! The file of a store, as the system reads it: whole.
 
-ghost use Rattle.std.specs.Prelude.{◌≡◌, IfErr, IfOk, OnOk, true};
-ghost use Rattle.ring_store_text.specs.Text.{IsStore, text_of};
-ghost use Rattle.ring_passwords.specs.Event.{Did};
+ghost use Rattle.std.specs.Prelude.{◌≡◌, IfErr, IfOk};
+ghost use Rattle.ring_store_text.specs.Text.{IsStore};
 ghost use Rattle.ring_passwords.specs.Failure.{status_of};
-ghost use Rattle.ring_passwords.specs.Replace.{IsNotReplaced, IsReplaced};
 
 use crate::change::{MARK, begins_store, store_in};
 use crate::failure::{Failure, Step};
 use crate::folder::folder_of;
-use crate::lock::locked;
 use crate::regular;
-use crate::replace::replace;
-use crate::steps::Steps;
 use crate::temporary::is_temporary;
 use ring_store::PasswordStore;
-use ring_store_text::to_text;
-use std::alloc::Global;
 use std::fs::{File, Metadata};
 use std::io::{ErrorKind, Read};
 use std::os::unix::fs::MetadataExt;
-use std::rt::{Clock, Files};
+use std::rt::Files;
 use std::{fs, io};
 
 /// How often a file is looked at that other processes replace meanwhile.
@@ -35,9 +28,16 @@ pub fn load<R: Files<File = File> + AllocGlobal>(
     ensures ok { IfOk result (λ store. IsStore store) }
     ensures status { IfErr result (λ failure. status_of failure ≡ 2) }
 {
-    let file = opened(rt, path)?;
-    let text = read(rt, file)?;
+    let text = text_in(rt, path)?;
     store_in(rt.alloc(), &text)
+}
+
+/// The text that stands in a file, which begins as a store's.
+pub fn text_in<R: Files<File = File> + AllocGlobal>(rt: &R, path: &str) -> Result<Vec<u8>, Failure>
+    ensures status { IfErr result (λ failure. status_of failure ≡ 2) }
+{
+    let file = opened(rt, path)?;
+    read(rt, file)
 }
 
 /// Refuses a path that is not of a regular file, or whose file has another name that would keep the
@@ -118,56 +118,5 @@ fn missing<R: Files>(rt: &R, path: &str) -> Failure
     match fs::metadata(rt, folder_of(path)) {
         Err(error) if error.kind() == ErrorKind::NotFound => Failure::NoFolder,
         _ => Failure::NoFile,
-    }
-}
-
-/// A store's file, locked: no other process of this program replaces it.
-#[derive(Drop)]
-pub struct LockedFile<'a> {
-    path: &'a str,
-    /// Dropping it unlocks the file.
-    _lock: File,
-}
-
-impl<'a> LockedFile<'a> {
-    /// Locks a file, which need not be there, by the file `.lock` beside it.
-    pub fn new<R: Files<File = File> + AllocGlobal + Clock>(
-        rt: &R,
-        path: &'a str,
-    ) -> Result<LockedFile<'a>, Failure>
-        ensures status { IfErr result (λ failure. status_of failure ≡ 2) }
-    {
-        let lock_path = format!(in rt.alloc(); "{path}.lock")?;
-        let lock = locked(rt, folder_of(path), lock_path.as_str())?;
-        Ok(LockedFile { path, _lock: lock })
-    }
-
-    /// The store that stands in the file, which has no other name.
-    pub fn load<R: Files<File = File> + AllocGlobal>(
-        &self,
-        rt: &R,
-    ) -> Result<PasswordStore, Failure>
-        ensures ok { IfOk result (λ store. IsStore store) }
-        ensures status { IfErr result (λ failure. status_of failure ≡ 2) }
-    {
-        require_replaceable(rt, self.path)?;
-        load(rt, self.path)
-    }
-
-    /// Puts a new file with the store's text in the place of the file.
-    pub fn replace<S: Steps>(
-        &self,
-        alloc: Global,
-        steps: &mut S,
-        store: &PasswordStore,
-    ) -> Result<(), Failure>
-        ensures ok { OnOk result (Did (S.events steps.old) (S.events steps.new)
-            (IsReplaced self.now.path.now (text_of store.now) true)) }
-        ensures refused { IfErr result (λ failure. Did (S.events steps.old) (S.events steps.new)
-            (IsNotReplaced self.now.path.now (text_of store.now) failure)) }
-        ensures status { IfErr result (λ failure. status_of failure ≡ 2) }
-    {
-        let text = to_text(alloc, store)?;
-        replace(alloc, steps, self.path, &text)
     }
 }

@@ -3,9 +3,10 @@
 //! file that is replaced.
 
 ghost use Rattle.std.specs.Prelude.{◌≡◌, IfErr};
-ghost use Rattle.ring_passwords.specs.Failure.{status_of};
+ghost use Rattle.ring_passwords.specs.Failure.{IsNotLocked, status_of};
 
 use crate::failure::{Failure, Step};
+use crate::folder::folder_of;
 use crate::regular;
 use std::fs::{File, Metadata, TryLockError};
 use std::io::ErrorKind;
@@ -19,10 +20,23 @@ const TRIES: u32 = 3_000;
 
 const PAUSE_MILLIS: u64 = 20;
 
+/// Locks a store's file, which need not be there, by the file `.lock` beside it. Dropping the
+/// result unlocks it.
+pub fn lock_beside<R>(rt: &R, path: &str) -> Result<File, Failure>
+where
+    R: Files<File = File> + AllocGlobal + Clock,
+    ensures failure { IfErr result IsNotLocked }
+    ensures status { IfErr result (λ failure. status_of failure ≡ 2) }
+{
+    let lock_path = format!(in rt.alloc(); "{path}.lock")?;
+    locked(rt, folder_of(path), lock_path.as_str())
+}
+
 /// Locks the file of this path, which is made where it is missing. Dropping the result unlocks it.
-pub fn locked<R>(rt: &R, folder: &str, path: &str) -> Result<File, Failure>
+fn locked<R>(rt: &R, folder: &str, path: &str) -> Result<File, Failure>
 where
     R: Files<File = File> + Clock,
+    ensures failure { IfErr result IsNotLocked }
     ensures status { IfErr result (λ failure. status_of failure ≡ 2) }
 {
     let lock = open(rt, path)?;
@@ -33,6 +47,7 @@ where
 
 /// Opens the lock, or makes it.
 fn open<R: Files<File = File>>(rt: &R, path: &str) -> Result<File, Failure>
+    ensures failure { IfErr result IsNotLocked }
     ensures status { IfErr result (λ failure. status_of failure ≡ 2) }
 {
     match regular::create(rt, path) {
@@ -47,6 +62,7 @@ fn open<R: Files<File = File>>(rt: &R, path: &str) -> Result<File, Failure>
 
 /// Opens a lock that is there.
 fn open_old<R: Files<File = File>>(rt: &R, path: &str) -> Result<File, Failure>
+    ensures failure { IfErr result IsNotLocked }
     ensures status { IfErr result (λ failure. status_of failure ≡ 2) }
 {
     let found = fs::symlink_metadata(rt, path).map_err(refused)?;
@@ -58,13 +74,15 @@ fn open_old<R: Files<File = File>>(rt: &R, path: &str) -> Result<File, Failure>
 
 /// The system refuses a step with the lock.
 fn refused(error: io::Error) -> Failure
-    ensures { status_of result ≡ 2 }
+    ensures failure { result ≡ Failure.System Step.Lock error }
+    ensures status { status_of result ≡ 2 }
 {
     Failure::System(Step::Lock, error)
 }
 
 /// Locks an open file, once the process that holds it lets go.
 fn acquire(rt: &impl Clock, lock: &File) -> Result<(), Failure>
+    ensures failure { IfErr result IsNotLocked }
     ensures status { IfErr result (λ failure. status_of failure ≡ 2) }
 {
     for _ in 0..TRIES {
@@ -79,6 +97,7 @@ fn acquire(rt: &impl Clock, lock: &File) -> Result<(), Failure>
 
 /// Refuses a lock that is no longer the file of this path, or that another user could replace.
 fn require_lock<R: Files>(rt: &R, folder: &str, path: &str, lock: &File) -> Result<(), Failure>
+    ensures failure { IfErr result IsNotLocked }
     ensures status { IfErr result (λ failure. status_of failure ≡ 2) }
 {
     let found = fs::symlink_metadata(rt, path).map_err(refused)?;

@@ -13,14 +13,15 @@ ghost use Rattle.ring_passwords.specs.Failure.{status_of};
 use crate::about::{About, write_about};
 use crate::action::Action;
 use crate::asked::{Asked, asked_of};
-use crate::change::{ADVISED_ITERATIONS, FEWEST_ITERATIONS, new_store};
+use crate::change::{ADVISED_ITERATIONS, FEWEST_ITERATIONS};
 use crate::check::check;
 use crate::conversion::{Conversion, max_iterations};
 use crate::encode::{encode_salted, iterations_of_text};
 use crate::failure::{Ended, FAILED, Failure, Step};
-use crate::file::LockedFile;
 use crate::listing::write_listing;
-use crate::password::{MAX_PASSWORD_LEN, read_password};
+use crate::order::{remove_from_file, set_in_file, verify_in_file};
+use crate::password::MAX_PASSWORD_LEN;
+use crate::steps::Steps;
 use crate::system::System;
 use ring::cost::Meter;
 use ring_password_hash::{MAX_TEXT_LEN, Scheme};
@@ -53,14 +54,18 @@ mod lock;
 #[cfg(test)]
 mod memory;
 mod misuse;
+mod order;
 mod password;
 mod quoted;
 mod regular;
 mod replace;
 mod salt;
 mod steps;
+mod store_file;
 mod system;
 mod temporary;
+#[cfg(test)]
+mod tests;
 mod word;
 
 /// The most bytes that `check` reads: a text, a password and their line feeds.
@@ -75,96 +80,6 @@ fn arguments<R: Env + AllocGlobal>(rt: &R) -> Result<Vec<String>, Failure>
     Ok(words)
 }
 
-/// Refuses a name and a file for which no password can be right, before one is read.
-fn look<R: Files<File = File> + AllocGlobal>(rt: &R, path: &str, name: &[u8]) -> Result<(), Failure>
-    ensures status { IfErr result (λ failure. status_of failure ≡ 2) }
-{
-    change::require_name(name)?;
-    file::load(rt, path)?;
-    Ok(())
-}
-
-/// The password that standard input has.
-fn password_of<R: AllocGlobal + Input>(rt: &R) -> Result<Vec<u8>, Failure>
-    ensures status { IfErr result (λ failure. status_of failure ≡ 2) }
-{
-    // A byte more shows that a line is too long.
-    let mut reader = rt.reader().take(MAX_PASSWORD_LEN as u64 + 1);
-    read_password(rt.alloc(), &mut reader)
-}
-
-/// Sets a name's password in a file, which need not be there, and gives the store's iterations.
-fn set<R>(
-    rt: &R,
-    path: &str,
-    name: &[u8],
-    iterations: Option<NonZeroU32>,
-) -> Result<NonZeroU32, Failure>
-where
-    R: Files<File = File> + AllocGlobal + Clock + Clone + Drop + Input + RandomSource,
-    ensures status { IfErr result (λ failure. status_of failure ≡ 2) }
-{
-    let was_missing = is_missing(rt, path, name)?;
-    let password = password_of(rt)?;
-    let file = LockedFile::new(rt, path)?;
-    let mut store = match file.load(rt) {
-        Err(failure) if change::is_made(was_missing, &failure) => {
-            new_store(rt.alloc(), &mut System { rt }, iterations)?
-        }
-        loaded => loaded?,
-    };
-    change::set(&mut store, name, &password, iterations, &mut Meter::new())?;
-    file.replace(rt.alloc(), &mut System { rt }, &store)?;
-    Ok(store.iterations())
-}
-
-/// Whether there is no file yet in which the name's password can be set.
-fn is_missing<R: Files<File = File> + AllocGlobal>(
-    rt: &R,
-    path: &str,
-    name: &[u8],
-) -> Result<bool, Failure>
-    ensures status { IfErr result (λ failure. status_of failure ≡ 2) }
-{
-    match look(rt, path, name) {
-        Ok(()) => {
-            file::require_replaceable(rt, path)?;
-            Ok(false)
-        }
-        Err(Failure::NoFile) => Ok(true),
-        Err(failure) => Err(failure),
-    }
-}
-
-/// Tests a name's password against a file.
-fn verify<R: Files<File = File> + AllocGlobal + Input>(
-    rt: &R,
-    path: &str,
-    name: &[u8],
-) -> Result<(), Failure>
-    ensures status { IfErr result (λ failure. (status_of failure ≡ 2)
-        ⊎ (failure ≡ Failure.WrongNameOrPassword)) }
-{
-    look(rt, path, name)?;
-    let password = password_of(rt)?;
-    let store = file::load(rt, path)?;
-    change::verify(&store, name, &password, &mut Meter::new())
-}
-
-/// Removes a name from a file.
-fn remove<R>(rt: &R, path: &str, name: &[u8]) -> Result<(), Failure>
-where
-    R: Files<File = File> + AllocGlobal + Clock + Clone + Drop + RandomSource,
-    ensures status { IfErr result (λ failure. (status_of failure ≡ 2)
-        ⊎ (failure ≡ Failure.NoSuchName)) }
-{
-    file::require_replaceable(rt, path)?;
-    let file = LockedFile::new(rt, path)?;
-    let mut store = file.load(rt)?;
-    change::remove(&mut store, name)?;
-    file.replace(rt.alloc(), &mut System { rt }, &store)
-}
-
 /// Writes the names of a file, a line each.
 fn list<R: Files<File = File> + AllocGlobal + Print>(rt: &R, path: &str) -> Result<(), Failure>
     ensures status { IfErr result (λ failure. status_of failure ≡ 2) }
@@ -176,12 +91,12 @@ fn list<R: Files<File = File> + AllocGlobal + Print>(rt: &R, path: &str) -> Resu
 /// Writes the text of a password, under a random salt.
 fn write_encoded<R>(rt: &R, scheme: Scheme, iterations: NonZeroU32) -> Result<(), Failure>
 where
-    R: Files<File = File> + AllocGlobal + Clone + Drop + RandomSource,
+    R: Files<File = File> + AllocGlobal + Clock + Clone + Drop + RandomSource,
     R: Input + Print,
     ensures status { IfErr result (λ failure. status_of failure ≡ 2) }
 {
-    let password = password_of(rt)?;
     let mut system = System { rt };
+    let password = system.password()?;
     encode_salted(
         &mut system,
         scheme,
@@ -194,7 +109,7 @@ where
 /// Does what is asked of the text of a password.
 fn convert<R>(rt: &R, asked: Conversion) -> Result<(), Failure>
 where
-    R: Files<File = File> + AllocGlobal + Clone + Drop + RandomSource,
+    R: Files<File = File> + AllocGlobal + Clock + Clone + Drop + RandomSource,
     R: Input + Print,
     ensures status { IfErr result (λ failure. (status_of failure ≡ 2)
         ⊎ (failure ≡ Failure.WrongPassword)) }
@@ -235,16 +150,18 @@ where
     R: Files<File = File> + AllocGlobal + Clock + Clone + Drop + RandomSource,
     R: Eprint + Input + Print,
 {
+    let alloc = rt.alloc();
+    let mut system = System { rt };
     match action {
         Action::Set(name, iterations) => {
-            let iterations = set(rt, path, name.as_bytes(), iterations)?;
+            let iterations = set_in_file(alloc, &mut system, path, name.as_bytes(), iterations)?;
             if change::is_few(iterations) {
                 warn_of_few(rt);
             }
             Ok(())
         }
-        Action::Verify(name) => verify(rt, path, name.as_bytes()),
-        Action::Remove(name) => remove(rt, path, name.as_bytes()),
+        Action::Verify(name) => verify_in_file(alloc, &mut system, path, name.as_bytes()),
+        Action::Remove(name) => remove_from_file(alloc, &mut system, path, name.as_bytes()),
         Action::List => list(rt, path),
     }
 }

@@ -3,7 +3,7 @@
 
 use crate::steps::Access;
 use std::alloc::{AllocError, Global};
-use std::io;
+use std::{io, mem};
 
 /// The path of the store's file.
 pub const STORE: &str = "users";
@@ -12,6 +12,9 @@ pub const STORE: &str = "users";
 pub const OLD: &[u8] = b"the old text\n";
 
 pub const NEW: &[u8] = b"the text that takes its place\n";
+
+/// The password that is typed.
+pub const TYPED: &[u8] = b"the password that is typed";
 
 /// The number of the folder among those of the files.
 const FOLDER: u32 = u32::MAX;
@@ -24,6 +27,25 @@ pub struct Content {
     /// Whether its bytes are on the disk.
     pub is_synced: bool,
     pub is_locked: bool,
+}
+
+/// Why a file is not read.
+#[derive(Clone, Copy, PartialEq)]
+pub enum Absence {
+    /// There is none.
+    Missing,
+    /// The step fails.
+    Refused,
+}
+
+/// What other processes do to the store's file while the password is read.
+#[derive(Drop)]
+pub enum Meanwhile {
+    Nothing,
+    /// They remove it.
+    Removed,
+    /// They put another in its place.
+    Replaced(Content),
 }
 
 /// A name, and the file that has it.
@@ -48,6 +70,8 @@ pub struct Folder {
     last_bad: usize,
     /// The first step that failed.
     pub failed: Option<&'static str>,
+    /// What happens while the password is read.
+    pub meanwhile: Meanwhile,
 }
 
 impl Folder {
@@ -62,6 +86,7 @@ impl Folder {
             first_bad,
             last_bad,
             failed: None,
+            meanwhile: Meanwhile::Nothing,
         }
     }
 
@@ -281,5 +306,49 @@ impl Folder {
         }
         self.forget(path);
         true
+    }
+
+    pub fn password(&mut self, alloc: Global) -> Option<Vec<u8>> {
+        if self.fails("password") {
+            return None;
+        }
+        match mem::replace(&mut self.meanwhile, Meanwhile::Nothing) {
+            Meanwhile::Nothing => {}
+            Meanwhile::Removed => self.forget(STORE),
+            Meanwhile::Replaced(file) => {
+                self.forget(STORE);
+                self.put(alloc, STORE, file).ok()?;
+            }
+        }
+        TYPED.to_vec(alloc).ok()
+    }
+
+    pub fn text(
+        &mut self,
+        step: &'static str,
+        alloc: Global,
+        path: &str,
+    ) -> Result<Vec<u8>, Absence> {
+        if self.fails(step) {
+            return Err(Absence::Refused);
+        }
+        match self.file(path) {
+            Some(file) => file.bytes.to_vec(alloc).or(Err(Absence::Refused)),
+            None => Err(Absence::Missing),
+        }
+    }
+
+    pub fn look_for_links(&mut self, path: &str) -> Result<(), Absence> {
+        if self.fails("look_for_links") {
+            return Err(Absence::Refused);
+        }
+        match self.number(path) {
+            Some(_) => Ok(()),
+            None => Err(Absence::Missing),
+        }
+    }
+
+    pub fn lock_store(&mut self) -> bool {
+        !self.fails("lock_store")
     }
 }

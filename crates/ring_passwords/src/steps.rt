@@ -1,11 +1,13 @@
 // SPDX-License-Identifier: ISC
-//! The steps that are taken with files.
+//! The steps that are taken with files, and the one that reads the password.
 
-ghost use Rattle.std.specs.Prelude.{◌≡◌, ℕ, List, Option, is_ok, length};
+ghost use Rattle.std.specs.Prelude.{◌≡◌, ℕ, List, Option, IfErr, is_ok, length};
 ghost use Rattle.std.specs.Result.{result_ok};
-ghost use Rattle.ring_passwords.specs.Event.{Event, Notes};
+ghost use Rattle.ring_passwords.specs.Event.{Event, Notes, bytes_read};
 ghost use Rattle.ring_passwords.specs.Event as event;
+ghost use Rattle.ring_passwords.specs.Failure.{IsNoPassword, IsNotLocked, status_of};
 
+use crate::failure::Failure;
 use std::io;
 
 /// Who owns a file, and its mode.
@@ -19,10 +21,13 @@ pub struct Access {
     pub mode: u32,
 }
 
-/// The steps that are taken with files.
+/// The steps that are taken with files, and the one that reads the password.
 pub trait Steps {
     /// An open file, or an open folder.
     type File: Drop;
+
+    /// The lock of a store's file, which dropping it unlocks.
+    type Lock: Drop;
 
     /// The names in a folder, of which some are read.
     type Names: Drop;
@@ -107,4 +112,35 @@ pub trait Steps {
     fn remove(&mut self, path: &str) -> io::Result<()>
         ensures { Notes (events self.old) (events self.new)
             (event.Remove path.now (is_ok result)) };
+
+    /// Reads the password.
+    fn password(&mut self) -> Result<Vec<u8>, Failure>
+        ensures noted { Notes (events self.old) (events self.new)
+            (event.ReadPassword (bytes_read result)) }
+        ensures failure { IfErr result IsNoPassword };
+
+    /// Reads the text of a store's file.
+    fn read_store(&mut self, path: &str) -> Result<Vec<u8>, Failure>
+        ensures noted { Notes (events self.old) (events self.new)
+            (event.ReadStore path.now (bytes_read result)) }
+        ensures status { IfErr result (λ failure. status_of failure ≡ 2) };
+
+    /// Refuses a path that is not of a regular file, or whose file has another name that would keep
+    /// the old text.
+    fn look_for_links(&mut self, path: &str) -> Result<(), Failure>
+        ensures noted { Notes (events self.old) (events self.new)
+            (event.LookForLinks path.now result) }
+        ensures status { IfErr result (λ failure. status_of failure ≡ 2) };
+
+    /// Locks a store's file, which need not be there.
+    fn lock_store(&mut self, path: &str) -> Result<Self::Lock, Failure>
+        ensures noted { Notes (events self.old) (events self.new)
+            (event.LockStore path.now (is_ok result)) }
+        ensures failure { IfErr result IsNotLocked };
+
+    /// Reads the text of a store's file that has no other name.
+    fn read_to_replace(&mut self, path: &str) -> Result<Vec<u8>, Failure>
+        ensures noted { Notes (events self.old) (events self.new)
+            (event.ReadToReplace path.now (bytes_read result)) }
+        ensures status { IfErr result (λ failure. status_of failure ≡ 2) };
 }

@@ -4,14 +4,18 @@
 ghost use Rattle.std.specs.Prelude.{None};
 ghost use Rattle.std.specs.Fs.{dir_entry_name};
 
+use crate::failure::Failure;
+use crate::file::{require_replaceable, text_in};
+use crate::lock::lock_beside;
+use crate::password::{MAX_PASSWORD_LEN, read_password};
 use crate::regular;
 use crate::steps::{Access, Steps};
 use std::alloc::Global;
 use std::fs::{DirEntry, File, Permissions, ReadDir, read_dir};
-use std::io::{ErrorKind, Write};
+use std::io::{ErrorKind, Read, Write};
 use std::os::unix::fs::{MetadataExt, PermissionsExt, fchown};
 use std::random::RandomSource;
-use std::rt::Files;
+use std::rt::{Clock, Files};
 use std::{fs, io};
 
 /// The system.
@@ -23,9 +27,11 @@ pub struct System<'a, R> {
 
 impl<R> Steps for System<'_, R>
 where
-    R: Files<File = File> + AllocGlobal + Clone + Drop + RandomSource,
+    R: Files<File = File> + AllocGlobal + Clock + Clone + Drop + Input + RandomSource,
 {
     type File = File;
+
+    type Lock = File;
 
     type Names = ReadDir<R, Global>;
 
@@ -115,5 +121,28 @@ where
 
     fn remove(&mut self, path: &str) -> io::Result<()> {
         fs::remove_file(self.rt, path)
+    }
+
+    fn password(&mut self) -> Result<Vec<u8>, Failure> {
+        // A byte more shows that a line is too long.
+        let mut reader = self.rt.reader().take(MAX_PASSWORD_LEN as u64 + 1);
+        read_password(self.rt.alloc(), &mut reader)
+    }
+
+    fn read_store(&mut self, path: &str) -> Result<Vec<u8>, Failure> {
+        text_in(self.rt, path)
+    }
+
+    fn look_for_links(&mut self, path: &str) -> Result<(), Failure> {
+        require_replaceable(self.rt, path)
+    }
+
+    fn lock_store(&mut self, path: &str) -> Result<File, Failure> {
+        lock_beside(self.rt, path)
+    }
+
+    fn read_to_replace(&mut self, path: &str) -> Result<Vec<u8>, Failure> {
+        require_replaceable(self.rt, path)?;
+        text_in(self.rt, path)
     }
 }

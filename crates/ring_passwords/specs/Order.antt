@@ -1,0 +1,137 @@
+-- SPDX-License-Identifier: ISC
+-- In which order a store's file and the password are read.
+use Rattle.std.specs.Prelude.{◌≡◌, ◌⊎◌, ◌↔◌, ℕ, Bool, true, false, List, [], ◌∷◌, ◌++◌}
+use Rattle.std.specs.Prelude.{Option, Result, Ok, Err, IsErrAnd, length}
+use Rattle.std.specs.declared.num.NonZeroU32.{NonZeroU32}
+use Rattle.ring_store.specs.Store.{asked_iterations, new_store, verdict, with_password}
+use Rattle.ring_store.specs.declared.store.PasswordStore.{PasswordStore}
+use Rattle.ring_store_text.specs.Text.{IsStore, text_of}
+use Rattle.ring_passwords.specs.Change.{IsCountOfNew, told, with_given}
+use Rattle.ring_passwords.specs.Event.{Event, LockStore, LookForLinks, Random, ReadPassword}
+use Rattle.ring_passwords.specs.Event.{ReadStore, ReadToReplace}
+use Rattle.ring_passwords.specs.Failure.{IsOfSystem}
+use Rattle.ring_passwords.specs.Replace.{IsReplaced}
+use Rattle.ring_passwords.specs.declared.failure.Failure.{Failure}
+use Rattle.ring_passwords.specs.declared.failure.Failure.TheVariants as failure
+use Rattle.ring_passwords.specs.declared.failure.Step.TheVariants as step
+
+-- a text that is read is no store's, or there is no memory for its store
+abbrev pub IsNoStore : Failure → Type 0
+IsNoStore failed = (failed ≡ failure.NotAStore) ⊎ (failed ≡ failure.Memory)
+
+-- the store's text is read
+abbrev pub IsLoaded : {F Z : Type 0} → (path : List ℕ) → PasswordStore Z → List (Event F) → Type 0
+IsLoaded path store events = IsStore store × (events ≡ ReadStore path (Ok (text_of store)) ∷ [])
+
+-- no text is read, or one that gives no store
+abbrev pub IsNotLoaded : {F : Type 0} → (path : List ℕ) → Failure → List (Event F) → Type 0
+IsNotLoaded path failed events =
+    (events ≡ ReadStore path (Err failed) ∷ [])
+    ⊎ (IsNoStore failed × (text : List ℕ) × (events ≡ ReadStore path (Ok text) ∷ []))
+
+-- before the password is read, the name is refused or the file
+abbrev pub IsNotSeen : {F : Type 0} → (path : List ℕ) → Failure → List (Event F) → Type 0
+IsNotSeen path failed events =
+    ((failed ≡ failure.BadName) × (events ≡ [])) ⊎ IsNotLoaded path failed events
+
+-- a password is tested against the store whose text is read after it, and not against the one that
+-- was read before
+pub record IsTested {F : Type 0} (Z : Type 0) (path name : List ℕ) (r : Result (Unit {0}) Failure)
+    (events : List (Event F)) : Type 0 where
+  pub before : List ℕ
+  pub password : List ℕ
+  pub store : PasswordStore Z
+  pub is : IsStore store
+  pub answer : r ≡ told (verdict store name password)
+  pub are : events ≡ ReadStore path (Ok before) ∷ ReadPassword (Ok password)
+      ∷ ReadStore path (Ok (text_of store)) ∷ []
+
+-- the password is not read, or the file is refused before it or after it
+abbrev pub IsNotTested : {F : Type 0} → (path : List ℕ) → Failure → List (Event F) → Type 0
+IsNotTested path failed events =
+    IsNotSeen path failed events
+    ⊎ ((before : List ℕ)
+    × (events ≡ ReadStore path (Ok before) ∷ ReadPassword (Err failed) ∷ []))
+    ⊎ ((before password : List ℕ) × (last : List (Event _)) × IsNotLoaded path failed last
+    × (events ≡ ReadStore path (Ok before) ∷ ReadPassword (Ok password) ∷ last))
+
+-- the password is tested, or it is told why not
+abbrev pub IsVerified : {F : Type 0} → (Z : Type 0) → (path name : List ℕ)
+    → Result (Unit {0}) Failure → List (Event F) → Type 0
+IsVerified Z path name r events =
+    IsTested Z path name r events ⊎ IsErrAnd r (λ failed. IsNotTested path failed events)
+
+-- the first look, before the password is read: there is no file, or a store's that has no other
+-- name
+abbrev pub IsFirstLook : {F : Type 0} → (path : List ℕ) → (missing : Bool) → List (Event F)
+    → Type 0
+IsFirstLook path true events = events ≡ ReadStore path (Err failure.NoFile) ∷ []
+IsFirstLook path false events = (text : List ℕ)
+    × (events ≡ ReadStore path (Ok text) ∷ LookForLinks path (Ok tt) ∷ [])
+
+-- a new store, where there is no file now and was none at the first look
+pub record IsNew {F Z : Type 0} (path : List ℕ) (given : Option NonZeroU32) (missing : Bool)
+    (store : PasswordStore Z) (events : List (Event F)) : Type 0 where
+  pub salt : List ℕ
+  pub iterations : NonZeroU32
+  pub missed : missing ≡ true
+  pub len : length salt ≡ 16
+  pub count : IsCountOfNew given iterations
+  pub is : store ≡ new_store salt iterations
+  pub are : events ≡ ReadToReplace path (Err failure.NoFile) ∷ Random salt true ∷ []
+
+-- the store that is changed: that of the text that is read under the lock, or a new one
+abbrev pub IsTaken : {F Z : Type 0} → (path : List ℕ) → (given : Option NonZeroU32)
+    → (missing : Bool) → PasswordStore Z → List (Event F) → Type 0
+IsTaken path given missing store events =
+    (IsStore store × (events ≡ ReadToReplace path (Ok (text_of store)) ∷ []))
+    ⊎ IsNew path given missing store events
+
+-- under the lock the file is refused, or gives no store; or no salt is drawn for a new one
+abbrev pub IsNotTaken : {F : Type 0} → (path : List ℕ) → (missing : Bool) → Failure
+    → List (Event F) → Type 0
+IsNotTaken path missing failed events =
+    ((¬ ((missing ≡ true) × (failed ≡ failure.NoFile)))
+    × (events ≡ ReadToReplace path (Err failed) ∷ []))
+    ⊎ (IsNoStore failed × (text : List ℕ) × (events ≡ ReadToReplace path (Ok text) ∷ []))
+    ⊎ ((missing ≡ true) × IsOfSystem step.Salt failed × (salt : List ℕ)
+    × (events ≡ ReadToReplace path (Err failure.NoFile) ∷ Random salt false ∷ []))
+
+-- the file is looked at, then the password is read, and then the store under the lock
+pub record IsBegun {F Z : Type 0} (path : List ℕ) (given : Option NonZeroU32) (password : List ℕ)
+    (store : PasswordStore Z) (events : List (Event F)) : Type 0 where
+  pub missing : Bool
+  pub first : List (Event F)
+  pub taken : List (Event F)
+  pub looked : IsFirstLook path missing first
+  pub is_taken : IsTaken path given missing store taken
+  pub are : events ≡ first ++ ReadPassword (Ok password) ∷ LockStore path true ∷ taken
+
+-- the password of a name is set in the store that was read under the lock, or in a new one, and the
+-- file gets the text of that
+pub record IsSet {F : Type 0} (Z : Type 0) (path name : List ℕ) (given : Option NonZeroU32)
+    (iterations : NonZeroU32) (events : List (Event F)) : Type 0 where
+  pub password : List ℕ
+  pub store : PasswordStore Z
+  pub set : PasswordStore Z
+  pub begun : List (Event F)
+  pub replaced : List (Event F)
+  pub is_begun : IsBegun path given password store begun
+  pub is_set : set ≡ with_password (with_given store given) name password
+  pub is_replaced : IsReplaced path (text_of set) true replaced
+  pub count : iterations ≡ asked_iterations set
+  pub are : events ≡ begun ++ replaced
+
+-- the file was there at the first look, and then is no more: before the password is read, or under
+-- the lock
+abbrev pub IsVanished : {F : Type 0} → (path : List ℕ) → List (Event F) → Type 0
+IsVanished path events =
+    ((text : List ℕ)
+    × (events ≡ ReadStore path (Ok text) ∷ LookForLinks path (Err failure.NoFile) ∷ []))
+    ⊎ ((text password : List ℕ) × (events ≡ ReadStore path (Ok text) ∷ LookForLinks path (Ok tt)
+    ∷ ReadPassword (Ok password) ∷ LockStore path true
+    ∷ ReadToReplace path (Err failure.NoFile) ∷ []))
+
+-- there is no such file exactly if it vanished
+abbrev pub IsNotSet : {F : Type 0} → (path : List ℕ) → Failure → List (Event F) → Type 0
+IsNotSet path failed events = (failed ≡ failure.NoFile) ↔ IsVanished path events

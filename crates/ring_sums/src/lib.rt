@@ -7,6 +7,8 @@ mod amounts;
 mod check;
 mod console;
 mod entry;
+#[cfg(test)]
+mod failing_steps;
 mod files;
 mod found;
 mod lane;
@@ -15,6 +17,8 @@ pub mod laws;
 mod line;
 mod list;
 mod listing;
+#[cfg(test)]
+mod memory;
 mod names;
 mod options;
 mod outcome;
@@ -25,7 +29,9 @@ mod program;
 mod progress;
 mod quote;
 mod source;
+mod steps;
 mod sums;
+mod system;
 mod tree;
 mod wide;
 

@@ -1,156 +1,223 @@
 // SPDX-License-Identifier: ISC
 //! The files in a directory and below it.
 
-use crate::console::Console;
-use std::alloc::{AllocError, Global};
-use std::fs::Metadata;
-use std::io::{Eprint, ErrorKind, Read, Write};
-use std::os::unix::fs::MetadataExt;
-use std::rt::Files;
-use std::{fs, io};
+ghost use Rattle.std.specs.IoError.{error_kind};
+ghost use Rattle.std.specs.Prelude.{◌≡◌, ◌↔◌, IfOk, IsTrue, OnOk, string_bytes};
+ghost use Rattle.ring_sums.specs.Tree.{AreNamesTaken, Finds, IsFailed, IsIdle, IsNameTaken, IsRead};
+ghost use Rattle.ring_sums.specs.Tree.{IsReadOn, IsTaken, IsTreeFound, Names, is_entry, is_output};
+ghost use Rattle.ring_sums.specs.Tree.{output_of, with_slash};
 
-/// The name by which a process finds its standard output.
-const STANDARD_OUTPUT: &str = "/dev/fd/1";
+use crate::console::Console;
+use crate::steps::{Fault, Found, Identity, Kind, Steps};
+use crate::system::System;
+use ring_text::cut_at;
+use std::alloc::{AllocError, Global};
+use std::io;
+use std::io::{Eprint, ErrorKind, Write};
+use std::rt::Files;
 
 /// How many bytes of a directory's names are asked for at once.
 const NAMES_LEN: usize = 32_768;
 
-/// What tells a file from all others.
-#[derive(Clone, Copy, PartialEq, Eq)]
-struct Identity {
-    device: u64,
-    inode: u64,
-}
+/// What is between a directory's path and a name in it.
+const SLASH: &str = "/";
+
+/// The name of a directory in itself.
+const ITSELF: &[u8] = b".";
+
+/// The name of its parent in it.
+const PARENT: &[u8] = b"..";
 
 /// What is found of operands.
 #[derive(Drop)]
-struct Walk<'a, 'b, 'c, R, W> {
-    rt: &'a R,
+pub(crate) struct Walk<S> {
+    pub(crate) steps: S,
     alloc: Global,
-    console: &'b mut Console<'c, R, W>,
     /// The file that standard output is.
     output: Option<Identity>,
-    names: Vec<Vec<u8>>,
+    pub(crate) names: Vec<Vec<u8>>,
     /// The files in the directory that is walked, and below it.
     files: Vec<Vec<u8>>,
     /// The directories that are not read yet.
     waiting: Vec<String>,
     /// Whether all was read.
-    is_whole: bool,
-}
-
-fn identity_of(metadata: &Metadata) -> Identity {
-    Identity {
-        device: metadata.dev(),
-        inode: metadata.ino(),
-    }
-}
-
-/// The file that standard output is, if it is a regular one.
-fn output_of<R: Files>(rt: &R) -> Option<Identity> {
-    match fs::metadata(rt, STANDARD_OUTPUT) {
-        Ok(metadata) if metadata.is_file() => Some(identity_of(&metadata)),
-        _ => None,
-    }
+    pub(crate) is_whole: bool,
 }
 
 /// Whether a file is the one that standard output is.
-fn is_output(output: Option<Identity>, metadata: &Metadata) -> bool {
-    output == Some(identity_of(metadata))
+fn is_output(output: Option<Identity>, identity: Identity) -> bool
+    ensures { result ≡ is_output output identity }
+{
+    match output {
+        Some(output) => output.device == identity.device && output.inode == identity.inode,
+        None => false,
+    }
 }
 
-impl<'a, 'b, 'c, R: Files + AllocGlobal + Eprint, W: Write> Walk<'a, 'b, 'c, R, W> {
-    /// Takes what a directory has.
-    fn take(&mut self, name: &str, metadata: &Metadata) -> Result<(), AllocError> {
-        let kind = metadata.file_type();
-        if kind.is_dir() {
-            self.waiting.push(String::from_str(self.alloc, name)?)?;
-        } else if kind.is_symlink() {
-            self.console
-                .tell_of(name.as_bytes(), b"symbolic link not followed")?;
-        } else if !kind.is_file() {
-            self.console
-                .tell_of(name.as_bytes(), b"not a regular file")?;
-        } else if !is_output(self.output, metadata) {
-            self.files.push(name.as_bytes().to_vec(self.alloc)?)?;
-        }
-        Ok(())
-    }
+/// Whether a name in a directory is of something in it.
+fn is_entry(name: &[u8]) -> bool
+    ensures { result ≡ is_entry name.now }
+{
+    !(name.is_empty() || name == ITSELF || name == PARENT)
+}
 
+/// Whether a call was interrupted before it did anything.
+fn is_interruption(error: &io::Error) -> bool
+    ensures { IsTrue result ↔ (error_kind error.now ≡ ErrorKind.Interrupted) }
+{
+    error.kind() == ErrorKind::Interrupted
+}
+
+/// The path of a directory with a slash at its end.
+fn with_slash(alloc: Global, directory: &str) -> Result<String, AllocError>
+    ensures { IfOk result (λ path. string_bytes path ≡ with_slash directory.now) }
+{
+    let mut path = String::from_str(alloc, directory)?;
+    if !directory.as_bytes().ends_with(SLASH.as_bytes()) {
+        path.push_str(SLASH)?;
+    }
+    Ok(path)
+}
+
+impl<S: Steps + Drop> Walk<S> {
     /// Tells why something could not be read.
-    fn fail(&mut self, name: &[u8], error: &io::Error) -> Result<(), AllocError> {
+    fn fail(&mut self, name: &[u8], error: &io::Error) -> Result<(), AllocError>
+        ensures { OnOk result (Finds S.events self.old self.new (IsFailed name.now error.now)) }
+    {
         self.is_whole = false;
-        self.console.tell_error(name, error)
+        self.steps.tell_error(name, error)
     }
 
-    /// Takes what has this name in a directory, whose path ends with a slash.
-    fn take_name(&mut self, directory: &str, name: &[u8]) -> Result<(), AllocError> {
-        let mut path = directory.as_bytes().to_vec(self.alloc)?;
-        path.extend_from_slice(name)?;
-        let Ok(text) = std::str::from_utf8(&path) else {
-            self.is_whole = false;
-            return self.console.tell_of(&path, b"the name is not UTF-8");
+    /// Takes what a path in a directory is of.
+    fn take(&mut self, path: &str) -> Result<(), AllocError>
+        ensures { OnOk result (Finds S.events self.old self.new (IsTaken path.now)) }
+    {
+        let found = match self.steps.look(path) {
+            Ok(found) => found,
+            Err(error) => return self.fail(path.as_bytes(), &error),
         };
-        match fs::symlink_metadata(self.rt, text) {
-            Ok(metadata) => self.take(text, &metadata),
-            Err(error) => self.fail(&path, &error),
-        }
-    }
-
-    /// Takes what has one of these names, of which a zero byte ends each.
-    fn take_names(&mut self, directory: &str, names: &[u8]) -> Result<(), AllocError> {
-        'names: for name in names.split(|byte| *byte == 0) {
-            match name {
-                b"" | b"." | b".." => {}
-                _ => self.take_name(directory, name)?,
+        match found.kind {
+            Kind::Directory => self.waiting.push(String::from_str(self.alloc, path)?)?,
+            Kind::Link => self.steps.tell(path.as_bytes(), Fault::Link)?,
+            Kind::Other => self.steps.tell(path.as_bytes(), Fault::NotRegular)?,
+            Kind::File => {
+                if !is_output(self.output, found.identity) {
+                    self.files.push(path.as_bytes().to_vec(self.alloc)?)?;
+                }
             }
         }
         Ok(())
     }
 
+    /// Takes what has this name in a directory, whose path ends with a slash.
+    fn take_name(&mut self, directory: &str, name: &[u8]) -> Result<(), AllocError>
+        ensures { OnOk result (Finds S.events self.old self.new
+            (IsNameTaken directory.now name.now)) }
+    {
+        if !is_entry(name) {
+            return Ok(());
+        }
+        let mut path = directory.as_bytes().to_vec(self.alloc)?;
+        path.extend_from_slice(name)?;
+        let Ok(text) = std::str::from_utf8(&path) else {
+            self.is_whole = false;
+            return self.steps.tell(&path, Fault::NotUtf8);
+        };
+        self.take(text)
+    }
+
+    /// Takes what has one of these names, of which a zero byte ends each.
+    fn take_names(&mut self, directory: &str, names: &[u8]) -> Result<(), AllocError>
+        ensures { OnOk result (Finds S.events self.old self.new
+            (AreNamesTaken directory.now names.now)) }
+    {
+        let mut rest = names;
+        'names: while let Some((name, behind)) = cut_at(rest, 0) {
+            self.take_name(directory, name)?;
+            rest = behind;
+        }
+        self.take_name(directory, rest)
+    }
+
+    /// Reads some names of a directory of this path and takes what has them, and says whether there
+    /// may be more.
+    fn read_some(
+        &mut self,
+        directory: &str,
+        path: &str,
+        names: &mut S::Names,
+        room: &mut [u8],
+    ) -> Result<bool, AllocError>
+        ensures { IfOk result (λ goes_on. Finds S.events self.old self.new
+            (IsReadOn goes_on directory.now path.now)) }
+    {
+        match self.steps.read(names, room) {
+            Ok(0) => Ok(false),
+            Ok(len) => {
+                self.take_names(path, &room[..len])?;
+                Ok(true)
+            }
+            Err(error) => {
+                if is_interruption(&error) {
+                    return Ok(true);
+                }
+                self.fail(directory.as_bytes(), &error)?;
+                Ok(false)
+            }
+        }
+    }
+
     /// Reads a directory.
-    fn read(&mut self, directory: &str) -> Result<(), AllocError> {
-        let path = with_slash(self.alloc, directory)?;
-        let mut names = match self.rt.open_dir(&path) {
+    fn read(&mut self, directory: &str) -> Result<(), AllocError>
+        ensures { OnOk result (Finds S.events self.old self.new (IsRead directory.now)) }
+    {
+        let slashed = with_slash(self.alloc, directory)?;
+        let path = slashed.as_str();
+        let mut names = match self.steps.open(path) {
             Ok(names) => names,
             Err(error) => return self.fail(directory.as_bytes(), &error),
         };
         let mut room = vec![in self.alloc; 0; NAMES_LEN]?;
         'reads: for _ in 0..u64::MAX {
-            match names.read(&mut room) {
-                Ok(0) => break,
-                Ok(len) => self.take_names(&path, &room[..len])?,
-                Err(error) if error.kind() == ErrorKind::Interrupted => {}
-                Err(error) => return self.fail(directory.as_bytes(), &error),
+            if !self.read_some(directory, path, &mut names, &mut room)? {
+                return Ok(());
             }
         }
-        Ok(())
+        Err(AllocError)
     }
 
     /// Appends the names of the files in a directory and below it, in the order of their bytes. A
     /// link that is found is not followed, and the file that standard output is is left out.
-    fn append_tree(&mut self, directory: &str) -> Result<(), AllocError> {
+    fn append_tree(&mut self, directory: &str) -> Result<(), AllocError>
+        requires { IsIdle self.old }
+        ensures idle { OnOk result (IsIdle self.new) }
+        ensures ok { OnOk result (Names S.events self.old self.new
+            (IsTreeFound self.old.output directory.now)) }
+    {
         self.waiting.push(String::from_str(self.alloc, directory)?)?;
         'directories: for _ in 0..u64::MAX {
-            let Some(directory) = self.waiting.pop() else {
-                break;
+            let Some(next) = self.waiting.pop() else {
+                self.files.sort()?;
+                return self.names.append(&mut self.files);
             };
-            self.read(&directory)?;
+            self.read(next.as_str())?;
         }
-        self.files.sort()?;
-        self.names.append(&mut self.files)
+        Err(AllocError)
     }
 
     /// Appends the names of an operand's files: in place of a directory those of the files below
     /// it.
-    fn append_operand(&mut self, name: &[u8]) -> Result<(), AllocError> {
+    fn append_operand(&mut self, name: &[u8]) -> Result<(), AllocError>
+        requires { IsIdle self.old }
+        ensures idle { OnOk result (IsIdle self.new) }
+    {
         if let Ok(path) = std::str::from_utf8(name)
-            && let Ok(metadata) = fs::metadata(self.rt, path)
+            && let Ok(found) = self.steps.look_at_operand(path)
         {
-            if metadata.is_dir() {
+            if matches!(found.kind, Kind::Directory) {
                 return self.append_tree(path);
             }
-            if is_output(self.output, &metadata) {
+            if is_output(self.output, found.identity) {
                 return Ok(());
             }
         }
@@ -159,7 +226,10 @@ impl<'a, 'b, 'c, R: Files + AllocGlobal + Eprint, W: Write> Walk<'a, 'b, 'c, R, 
     }
 
     /// Appends the names of the operands' files.
-    fn append_operands(&mut self, operands: &[&[u8]]) -> Result<(), AllocError> {
+    fn append_operands(&mut self, operands: &[&[u8]]) -> Result<(), AllocError>
+        requires { IsIdle self.old }
+        ensures idle { OnOk result (IsIdle self.new) }
+    {
         'operands: for name in operands {
             self.append_operand(*name)?;
         }
@@ -167,13 +237,35 @@ impl<'a, 'b, 'c, R: Files + AllocGlobal + Eprint, W: Write> Walk<'a, 'b, 'c, R, 
     }
 }
 
-/// The path of a directory with a slash at its end.
-fn with_slash(alloc: Global, directory: &str) -> Result<String, AllocError> {
-    let mut path = String::from_str(alloc, directory)?;
-    if !path.ends_with('/') {
-        path.push('/')?;
+/// The file that standard output is, if it is a regular one.
+fn output_of(found: io::Result<Found>) -> Option<Identity>
+    ensures { result ≡ output_of found }
+{
+    match found {
+        Ok(found) if matches!(found.kind, Kind::File) => Some(found.identity),
+        _ => None,
     }
-    Ok(path)
+}
+
+/// What is found of operands.
+pub(crate) fn find<S: Steps + Drop>(
+    alloc: Global,
+    steps: S,
+    operands: &[&[u8]],
+) -> Result<Walk<S>, AllocError> {
+    let mut steps = steps;
+    let output = output_of(steps.look_at_output());
+    let mut walk = Walk {
+        steps,
+        alloc,
+        output,
+        names: Vec::new(alloc),
+        files: Vec::new(alloc),
+        waiting: Vec::new(alloc),
+        is_whole: true,
+    };
+    walk.append_operands(operands)?;
+    Ok(walk)
 }
 
 /// The names of the operands' files, and whether all directories could be read.
@@ -182,17 +274,6 @@ pub(crate) fn files_of<'a, 'b, 'c, R: Files + AllocGlobal + Eprint, W: Write>(
     operands: &[&[u8]],
     console: &'b mut Console<'c, R, W>,
 ) -> Result<(Vec<Vec<u8>>, bool), AllocError> {
-    let alloc = rt.alloc();
-    let mut walk = Walk {
-        rt,
-        alloc,
-        console,
-        output: output_of(rt),
-        names: Vec::new(alloc),
-        files: Vec::new(alloc),
-        waiting: Vec::new(alloc),
-        is_whole: true,
-    };
-    walk.append_operands(operands)?;
+    let walk = find(rt.alloc(), System { rt, console }, operands)?;
     Ok((walk.names, walk.is_whole))
 }

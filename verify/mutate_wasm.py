@@ -192,8 +192,8 @@ def changed_module(change):
 def refusal(change):
     """Why a kernel is refused with a change, or an empty text."""
     resource.setrlimit(resource.RLIMIT_AS, (MEMORY, MEMORY))
-    signal.signal(signal.SIGALRM, lambda *_: (_ for _ in ()).throw(Refused("it takes too long")))
-    signal.alarm(SECONDS)
+    signal.signal(signal.SIGPROF, lambda *_: (_ for _ in ()).throw(Refused("it takes too long")))
+    signal.setitimer(signal.ITIMER_PROF, SECONDS)  # of processor
     try:
         changed_module(change)[1].check()
     except Refused as why:
@@ -203,7 +203,7 @@ def refusal(change):
     except Exception as fault:  # what the checker doesn't foresee is a fault of it
         return f"!{type(fault).__name__}: {fault}"
     finally:
-        signal.alarm(0)
+        signal.setitimer(signal.ITIMER_PROF, 0)
     return ""
 
 

@@ -276,8 +276,8 @@ def changed_data(library, change):
 def refusal(change):
     """Why a kernel is refused with a change, or an empty text."""
     resource.setrlimit(resource.RLIMIT_AS, (MEMORY, MEMORY))
-    signal.signal(signal.SIGALRM, lambda *_: (_ for _ in ()).throw(Refused("it takes too long")))
-    signal.alarm(SECONDS)
+    signal.signal(signal.SIGPROF, lambda *_: (_ for _ in ()).throw(Refused("it takes too long")))
+    signal.setitimer(signal.ITIMER_PROF, SECONDS)  # of processor
     library = LIBRARY[0]
     library.data, library.lines, library.decoded = changed_data(library, change), {}, {}
     try:

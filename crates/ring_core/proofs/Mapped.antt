@@ -55,3 +55,12 @@ same_two e = (ap (λ (l : List ℕ). slice_index l 0) e, ap (λ (l : List ℕ). 
 -- two numbers added to a third at once or in turn
 pub sum_of_pair : (n x k w : ℕ) → (x + (k + w) % n) % n ≡ ((x + k) % n + w) % n
 sum_of_pair n x k w = simp (add-mod-mod, mod-add-mod) (ap (λ (m : ℕ). m % n) (omega arith))
+
+-- the terms of T₁, what is ready last added last
+pub terms_of_temp1 : (n h s c k w : ℕ) → (((h + (k + w) % n) % n + c) % n + s) % n
+    ≡ ((((h + s) % n + c) % n + k) % n + w) % n
+terms_of_temp1 n h s c k w = simp (add-mod-mod, mod-add-mod) (ap (λ (m : ℕ). m % n) (omega arith))
+
+-- T₁ and then the terms of T₂, the last first
+pub terms_of_a : (n t s m : ℕ) → ((t + m) % n + s) % n ≡ (t + (s + m) % n) % n
+terms_of_a n t s m = simp (add-mod-mod, mod-add-mod) (ap (λ (m : ℕ). m % n) (omega arith))

@@ -42,7 +42,7 @@ constants_256 =
     0x748f82ee ∷ 0x78a5636f ∷ 0x84c87814 ∷ 0x8cc70208 ∷
     0x90befffa ∷ 0xa4506ceb ∷ 0xbef9a3f7 ∷ 0xc67178f2 ∷ []
 
--- K of SHA-384, SHA-512 and SHA-512/256: K 0, .., K 79 (4.2.3)
+-- K of SHA-512 and its truncations: K 0, .., K 79 (4.2.3)
 unfoldable pub constants_512 : List ℕ
 constants_512 =
     0x428a2f98d728ae22 ∷ 0x7137449123ef65cd ∷ 0xb5c0fbcfec4d3b2f ∷ 0xe9b5dba58189dbbc ∷
@@ -78,7 +78,7 @@ family_256 = record {
   constants = constants_256;
 }
 
--- SHA-384, SHA-512 and SHA-512/256 (4.1.3, 4.2.3, 6.4)
+-- SHA-512 and its truncations (4.1.3, 4.2.3, 6.4)
 abbrev pub family_512 : Family
 family_512 = record {
   bits = 64;

@@ -40,6 +40,7 @@
 //! | `Sha256Instructions` | a processor | four rounds, and the next four words, by instructions |
 //! | `Sha1Instructions` | a processor | the same of SHA-1 |
 
+pub(crate) mod form;
 pub mod instructions;
 pub(crate) mod kernel;
 pub mod sha1;

@@ -12,7 +12,7 @@ use std::num::Wrapping;
 /// The chaining words of SHA-256. SHA-1 uses the first five and leaves the last three 0.
 pub type State32 = [Wrapping<u32>; 8];
 
-/// The chaining words of SHA-384, SHA-512 and SHA-512/256.
+/// The chaining words of SHA-512 and its truncations.
 pub type State64 = [Wrapping<u64>; 8];
 
 /// States of eight words, one in each lane.

@@ -39,9 +39,9 @@ pub fn block_data_order_32_fastest_counted(
     }
 }
 
-/// Runs SHA-512's block function, which SHA-384 and SHA-512/256 share, over each of `blocks`, of
-/// 128 bytes, in order, by the fastest kernel of this build on this processor, and replaces the
-/// chaining words `state` (6.4.2). Each block is counted on `meter`.
+/// Runs SHA-512's block function, which its truncations share, over each of `blocks`, of 128 bytes,
+/// in order, by the fastest kernel of this build on this processor, and replaces the chaining words
+/// `state` (6.4.2). Each block is counted on `meter`.
 pub fn block_data_order_64_fastest_counted(
     state: &mut State64,
     blocks: AsChunks<'_, u8, 128>,
@@ -79,8 +79,8 @@ pub fn block_of_words_32_fastest_counted(
     }
 }
 
-/// Runs SHA-512's block function, which SHA-384 and SHA-512/256 share, over one block that is given
-/// as words, by the fastest kernel of this build on this processor, and replaces the chaining words
+/// Runs SHA-512's block function, which its truncations share, over one block that is given as
+/// words, by the fastest kernel of this build on this processor, and replaces the chaining words
 /// `state` (6.4.2). The block is the first `N` words of `front`, at most eight, and then those of
 /// `padding` past them. One block is counted on `meter`.
 pub fn block_of_words_64_fastest_counted<const N: usize>(

@@ -260,8 +260,8 @@ pub fn block_data_order_64_counted(
     run_blocks::<Wrapping<u64>, 128>(state, blocks, meter)
 }
 
-/// Runs SHA-512's block function, which SHA-384 and SHA-512/256 share, over each of `blocks`, of
-/// 128 bytes, in order, and replaces the chaining words `state` (6.4.2).
+/// Runs SHA-512's block function, which its truncations share, over each of `blocks`, of 128 bytes,
+/// in order, and replaces the chaining words `state` (6.4.2).
 pub fn block_data_order_64(state: &mut State64, blocks: AsChunks<'_, u8, 128>)
     ensures words { words_64 state.new
         ≡ blocks_from family_512 (words_64 state.old)
@@ -285,8 +285,8 @@ pub fn block_of_words_32_counted(
     run_words::<Wrapping<u32>, 8>(state, front, padding, meter)
 }
 
-/// Runs SHA-512's block function, which SHA-384 and SHA-512/256 share, over one block that is given
-/// as words, and replaces the chaining words `state` (6.4.2). The block is the first `N` words of
+/// Runs SHA-512's block function, which its truncations share, over one block that is given as
+/// words, and replaces the chaining words `state` (6.4.2). The block is the first `N` words of
 /// `front`, at most eight, and then those of `padding` past them. One block is counted on `meter`.
 pub fn block_of_words_64_counted<const N: usize>(
     state: &mut State64,

@@ -13,7 +13,7 @@ pub(crate) const K_256: [u32; 64] = [
     0x748f82ee, 0x78a5636f, 0x84c87814, 0x8cc70208, 0x90befffa, 0xa4506ceb, 0xbef9a3f7, 0xc67178f2,
 ];
 
-// K of SHA-384, SHA-512 and SHA-512/256 (4.2.3)
+// K of SHA-512 and its truncations (4.2.3)
 #[rattlefmt::skip]
 pub(crate) const K_512: [u64; 80] = [
     0x428a2f98d728ae22, 0x7137449123ef65cd, 0xb5c0fbcfec4d3b2f, 0xe9b5dba58189dbbc,

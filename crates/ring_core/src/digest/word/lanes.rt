@@ -253,6 +253,28 @@ pub(crate) fn choose_word<W: LaneWord>(x: W, y: W, z: W) -> W
     z.bit_xor(x.bit_and(y.bit_xor(z)))
 }
 
+// `sum` with Ch(x, y, z) added. No bit is set in both of its terms, so that they are added one by
+// one. That of `z` is what `x` leaves of it.
+#[inline(always)]
+pub(crate) fn plus_choose<W: LaneWord>(sum: W, x: W, y: W, z: W) -> W
+    ensures { (i : ℕ) → W.lane i result ≡ add_words W.One.bits (W.lane i sum)
+        (choose W.One.bits (W.lane i x) (W.lane i y) (W.lane i z)) }
+{
+    let left = z.bit_xor(x.bit_and(z));
+    sum.plus(left).plus(x.bit_and(y))
+}
+
+// `sum` with Maj(x, y, z) added, in the same way.
+#[inline(always)]
+#[tactic(auto, using(crate::proofs::ShortForms::short_forms))]
+pub(crate) fn plus_majority<W: LaneWord>(sum: W, x: W, y: W, z: W) -> W
+    ensures { (i : ℕ) → W.lane i result ≡ add_words W.One.bits (W.lane i sum)
+        (majority (W.lane i x) (W.lane i y) (W.lane i z)) }
+{
+    let either = z.bit_and(x.bit_xor(y));
+    sum.plus(either).plus(x.bit_and(y))
+}
+
 // Maj(x, y, z), in four operations instead of the standard's five: `x ⊕ y` of a round is `y ⊕ z` of
 // the next
 #[inline(always)]

@@ -1,5 +1,5 @@
 // SPDX-License-Identifier: ISC
-//! The word of 64 bits, that of SHA-384, SHA-512 and SHA-512/256 (FIPS 180-4, 3.2), alone and in
+//! The word of 64 bits, that of SHA-512 and its truncations (FIPS 180-4, 3.2), alone and in
 //! vectors, and their numbers (4.1.3 and 4.2.3).
 ghost use Rattle.std.specs.Prelude.{◌≡◌, ℕ, ◌-◌, ◌*◌, ◌%◌, ◌^◌, ◌<◌, ◌≤◌, length, map, bit_and};
 ghost use Rattle.std.specs.Prelude.{bit_or, bit_xor, slice_index};
@@ -52,7 +52,7 @@ fn read(block: &[u8], j: usize) -> u64
     u64::from_be_bytes(*block[at..at + 8].as_array::<8>().unwrap())
 }
 
-/// The words of SHA-384, SHA-512 and SHA-512/256: 64 bits.
+/// The words of SHA-512 and its truncations: 64 bits.
 impl Word for Wrapping<u64> {
     const ZERO: Wrapping<u64> = Wrapping(0);
 
@@ -99,7 +99,7 @@ impl Word for Wrapping<u64> {
     ghost zero_is = { refl };
 }
 
-/// The numbers of SHA-384, SHA-512 and SHA-512/256 (FIPS 180-4, 4.1.3 and 4.2.3): 80 rounds.
+/// The numbers of SHA-512 and its truncations (FIPS 180-4, 4.1.3 and 4.2.3): 80 rounds.
 impl Sha2 for Wrapping<u64> {
     const BIG_SIGMA_0: (u32, u32, u32) = (28, 34, 39);
 

@@ -1,7 +1,7 @@
 -- SPDX-License-Identifier: ISC
 use Rattle.std.proofs.Common.{arith}
 use Rattle.ring_core.proofs.Rotation.{rotr-three}
-use Rattle.ring_core.proofs.digest.sha2.round.big_sigma.Goals as goal
+use Rattle.ring_core.proofs.digest.sha2.round.big_sigma_nested.Goals as goal
 
 pub returns : goal.returns
 returns g c = λ i.

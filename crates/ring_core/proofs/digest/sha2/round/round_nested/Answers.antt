@@ -2,7 +2,7 @@
 use Rattle.std.proofs.Common.{◌^◌, arith, rules}
 use Rattle.ring_core.specs.Prelude.{round}
 use Rattle.ring_core.proofs.Mapped.{sum_of_pair, value_read}
-use Rattle.ring_core.proofs.digest.sha2.round.round.Goals as goal
+use Rattle.ring_core.proofs.digest.sha2.round.round_nested.Goals as goal
 
 pub returns : goal.returns
 unfolding round

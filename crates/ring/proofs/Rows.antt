@@ -5,9 +5,8 @@ use Rattle.std.proofs.Common.{arith, ◌≡◌, ℕ, zero, ◌<◌, ◌≤◌, �
 use Rattle.std.proofs.Common.{lit<, lit≤, ◌+◌, ◌/◌, List, length}
 use Rattle.ring_core.specs.Sha1 as sha1
 use Rattle.ring_core.specs.Sha2 as sha2
-use Rattle.ring.specs.Prelude.{Algorithm, AlgorithmId, Row, Sha1, Sha256, Sha384, Sha512}
-use Rattle.ring.specs.Prelude.{Sha512_256, block_len, length_len, max_input_len, output_len, row_of}
-use Rattle.ring.specs.Prelude.{sha1_row, word_count, word_len}
+use Rattle.ring.specs.Prelude.{Algorithm, AlgorithmId, Row, Sha1, Sha256, block_len, length_len}
+use Rattle.ring.specs.Prelude.{max_input_len, output_len, row_of, sha1_row, word_count, word_len}
 use Rattle.ring.specs.Table.{row_by}
 
 -- the two sizes of blocks, b bytes, and length fields, l bytes
@@ -83,9 +82,7 @@ long_facts some most first = record {
 pub facts_of_id : (i : AlgorithmId) → AreFacts (row_of i)
 facts_of_id Sha1 = sha1_facts
 facts_of_id Sha256 = short_facts (lit< tt) (lit≤ tt) refl
-facts_of_id Sha384 = long_facts (lit< tt) (lit≤ tt) refl
-facts_of_id Sha512 = long_facts (lit< tt) (lit≤ tt) refl
-facts_of_id Sha512_256 = long_facts (lit< tt) (lit≤ tt) refl
+facts_of_id other = long_facts (lit< tt) (lit≤ tt) refl
 
 pub sizes_of : (a : Algorithm) → AreSizes (block_len a) (length_len a)
 sizes_of a = (facts_of_id a.id).sizes

@@ -1,20 +1,8 @@
 -- SPDX-License-Identifier: ISC
--- The algorithms of the code, each with its row of the standard's table.
-use Rattle.std.specs.Prelude.{ℕ, ◌/◌, List}
-use Rattle.ring.specs.Table.{sha1_row, sha256_row, sha384_row, sha512_row, sha512_256_row}
-pub use Rattle.ring.specs.Table.{Row}
+-- The algorithms of the code, by their rows of the standard's table.
+use Rattle.std.specs.Prelude.{ℕ, ◌/◌, List, Option, nat_eq, bytes_eq, find}
+pub use Rattle.ring.specs.Table.{Row, row_of, algorithms}
 use Rattle.ring.specs.declared.digest.algorithm.Algorithm.{Algorithm}
-use Rattle.ring.specs.declared.digest.algorithm.AlgorithmId.{AlgorithmId}
-use Rattle.ring.specs.declared.digest.algorithm.AlgorithmId.TheVariants.{Sha1, Sha256, Sha384}
-use Rattle.ring.specs.declared.digest.algorithm.AlgorithmId.TheVariants.{Sha512, Sha512_256}
-
--- the row of each
-abbrev pub row_of : AlgorithmId → Row
-row_of Sha1 = sha1_row
-row_of Sha256 = sha256_row
-row_of Sha384 = sha384_row
-row_of Sha512 = sha512_row
-row_of Sha512_256 = sha512_256_row
 
 -- an algorithm's row
 abbrev pub row : Algorithm → Row
@@ -52,6 +40,14 @@ max_input_len a = (row_of a.id).max_input_len
 -- the name that Debug prints
 abbrev pub name_of : Algorithm → List ℕ
 name_of a = (row_of a.id).name
+
+-- the algorithm of a number
+abbrev pub digest_named : ℕ → Option Algorithm
+digest_named number = find (λ a. nat_eq number (row a).number) algorithms
+
+-- the algorithm of a name
+abbrev pub digest_of_name : List ℕ → Option Algorithm
+digest_of_name name = find (λ a. bytes_eq name (name_of a)) algorithms
 
 -- the words before its first block
 abbrev pub initial_words : Algorithm → List ℕ

@@ -5,6 +5,7 @@ use Rattle.ring.specs.Hmac.{KeyStandsFor, hmac_digest, hmac_of, key_algorithm}
 use Rattle.ring.specs.Pieces.{joined_blocks}
 use Rattle.ring.specs.declared.digest.algorithm.Algorithm as digest
 use Rattle.ring.specs.declared.hkdf.algorithm.Algorithm.{Algorithm}
+use Rattle.ring.specs.declared.hmac.key.Algorithm as hmac
 use Rattle.ring.specs.declared.hkdf.prk.Prk.{Prk}
 use Rattle.ring.specs.declared.hkdf.salt.Salt.{Salt}
 
@@ -22,6 +23,10 @@ okm a k info n = take n (joined_blocks (hkdf_t a k info) 255)
 -- the digest algorithm that an HKDF algorithm is built on (section 2.1)
 abbrev pub hkdf_digest : Algorithm → digest.Algorithm
 hkdf_digest a = hmac_digest a.0
+
+-- HKDF over an HMAC algorithm
+abbrev pub hkdf_over : hmac.Algorithm → Algorithm
+hkdf_over a = record { 0 = a }
 
 -- the digest algorithm of a salt
 abbrev pub salt_algorithm : Salt → digest.Algorithm

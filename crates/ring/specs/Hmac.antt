@@ -1,11 +1,13 @@
 -- SPDX-License-Identifier: ISC
 -- HMAC (RFC 2104).
-use Rattle.std.specs.Prelude.{◌≡◌, ℕ, ◌+◌, List, ◌++◌, length}
-use Rattle.ring.specs.Algorithm.{block_len, output_len}
+use Rattle.std.specs.Prelude.{◌≡◌, ℕ, ◌+◌, List, ◌++◌, length, Option, None, Some}
+use Rattle.std.specs.Prelude.{if◌then◌else◌, nat_eq}
+use Rattle.ring.specs.Algorithm.{block_len, output_len, row}
 use Rattle.ring.specs.Context.{HasTaken, StandsFor, block_words, context_algorithm, digest_with}
 use Rattle.ring.specs.Context.{message_len, pending_len, room_of}
 use Rattle.ring.specs.Digest.{bytes_of, digest_after, digest_algorithm, digest_of}
 use Rattle.ring.specs.KeyBlocks.{inner_block, outer_block}
+use Rattle.ring.specs.Table.{sha512_256_row}
 use Rattle.ring.specs.declared.digest.algorithm.Algorithm as digest
 use Rattle.ring.specs.declared.hmac.key.Algorithm.{Algorithm}
 use Rattle.ring.specs.declared.hmac.context.Context.{Context}
@@ -29,6 +31,11 @@ tag_from a inner outer m =
 -- the digest algorithm that an HMAC algorithm is built on
 abbrev pub hmac_digest : Algorithm → digest.Algorithm
 hmac_digest a = a.0
+
+-- the HMAC algorithm over a digest algorithm: over each but SHA-512/256
+abbrev pub hmac_over : digest.Algorithm → Option Algorithm
+hmac_over a =
+    if nat_eq (row a).number sha512_256_row.number then None else Some (record { 0 = a })
 
 -- the digest algorithm of a key
 abbrev pub key_algorithm : Key → digest.Algorithm

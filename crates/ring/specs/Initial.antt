@@ -5,6 +5,6 @@ use Rattle.ring_core.specs.Roots.{IsRootFraction, first_primes}
 
 -- eight words of w bits: the first bits of the fractional parts of the square roots of the eight
 -- primes past the first `skip`
-abbrev pub AreSquareRoots : (w skip : ℕ) → List ℕ → Type 0
-AreSquareRoots w skip ws =
-    (t : ℕ) → t < 8 → IsRootFraction 2 w (slice_index (drop skip first_primes) t) (slice_index ws t)
+pub record AreSquareRoots (w skip : ℕ) (ws : List ℕ) : Type 0 where
+  pub each : (t : ℕ) → t < 8
+      → IsRootFraction 2 w (slice_index (drop skip first_primes) t) (slice_index ws t)

@@ -9,10 +9,15 @@ use Rattle.ring.specs.Limits.{CanVerify, derive_rounds}
 use Rattle.ring.specs.Pieces.{joined_blocks}
 use Rattle.ring.specs.declared.digest.algorithm.Algorithm as digest
 use Rattle.ring.specs.declared.pbkdf2.algorithm.Algorithm.{Algorithm}
+use Rattle.ring.specs.declared.hmac.key.Algorithm as hmac
 
 -- the digest algorithm of the pseudorandom function
 abbrev pub pbkdf2_digest : Algorithm → digest.Algorithm
 pbkdf2_digest a = hmac_digest a.0
+
+-- PBKDF2 over an HMAC algorithm
+abbrev pub pbkdf2_over : hmac.Algorithm → Algorithm
+pbkdf2_over a = record { 0 = a }
 
 -- U_1 = PRF (P, S || INT (i)), U_2 = PRF (P, U_1), ..: each is the tag of the one before it, and
 -- S || INT (i) stands before U_1

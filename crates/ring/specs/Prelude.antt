@@ -1,10 +1,9 @@
 -- SPDX-License-Identifier: ISC
 -- The words that most contracts and proofs cite, and the types that they speak of, passed on from
 -- one place.
-pub use Rattle.ring.specs.Table.{sha1_row, sha256_row, sha384_row, sha512_row, sha512_256_row}
-pub use Rattle.ring.specs.Table.{sha1_words, sha256_words, sha384_words, sha512_words}
-pub use Rattle.ring.specs.Table.{sha512_256_words, Row}
+pub use Rattle.ring.specs.Table.{Row, sha1_row}
 pub use Rattle.ring.specs.Algorithm.{row_of, row, word_len, block_len, length_len, output_len}
+pub use Rattle.ring.specs.Algorithm.{algorithms, digest_named, digest_of_name}
 pub use Rattle.ring.specs.Algorithm.{chaining_len, word_count, max_input_len, name_of}
 pub use Rattle.ring.specs.Algorithm.{initial_words, block_function}
 pub use Rattle.ring.specs.CodeRow.{IsRowOf}
@@ -41,15 +40,16 @@ pub use Rattle.ring.specs.Hmac.{signing_pending, signing_room, tag_algorithm, ta
 pub use Rattle.ring.specs.Hmac.{KeyStandsFor}
 pub use Rattle.ring.specs.Hmac.{TagStandsFor, IsTag, tag_of_inner, tag_from, inner_words}
 pub use Rattle.ring.specs.Hmac.{outer_words, tag_under, tag_with}
+pub use Rattle.ring.specs.Hmac.{hmac_over}
 unfoldable pub use Rattle.ring.specs.Hmac.{hmac_of}
 pub use Rattle.ring.specs.Prepared.{HasKey, HasStart, IsPaddingOf, IsSet, digest_at}
 pub use Rattle.ring.specs.Prepared.{prepared_padding}
-pub use Rattle.ring.specs.Hkdf.{hkdf_digest, salt_algorithm, SaltStandsFor, prk_algorithm}
-pub use Rattle.ring.specs.Hkdf.{PrkStandsFor}
+pub use Rattle.ring.specs.Hkdf.{hkdf_over, hkdf_digest, salt_algorithm, SaltStandsFor}
+pub use Rattle.ring.specs.Hkdf.{prk_algorithm, PrkStandsFor}
 unfoldable pub use Rattle.ring.specs.Hkdf.{hkdf_t, okm}
 pub use Rattle.ring.specs.Okm.{okm_algorithm, okm_asked_len, okm_info_len, asked_for, OkmStandsFor}
 pub use Rattle.ring.specs.Okm.{CanFill, IsMadeOf}
-pub use Rattle.ring.specs.Pbkdf2.{pbkdf2_digest, IsDerived}
+pub use Rattle.ring.specs.Pbkdf2.{pbkdf2_over, pbkdf2_digest, IsDerived}
 unfoldable pub use Rattle.ring.specs.Pbkdf2.{pbkdf2_t, pbkdf2_u, dk}
 pub use Rattle.ring.specs.DeriveEach.{bytes_at, dk_at, derive_blocks_at, derive_each_blocks}
 pub use Rattle.ring.specs.DeriveEach.{AreDerived, CanDeriveEach, IsKeyOf, AreKeysOf, AreVerified}
@@ -60,7 +60,7 @@ pub use Rattle.ring.specs.Rounds.{AreOutputs, AreStarts, IsOutput, blocks_at, by
 pub use Rattle.ring.specs.Rounds.{first_blocks, first_message, front, len_before, nth_round}
 pub use Rattle.ring.specs.Rounds.{round_at}
 unfoldable pub use Rattle.ring.specs.Rounds.{next_round, round_on, rounds_before}
-pub use Rattle.ring.specs.Raw.{digest_named, joined_halves, completed_len, raw_message_len}
+pub use Rattle.ring.specs.Raw.{joined_halves, completed_len, raw_message_len}
 pub use Rattle.ring.specs.Raw.{IsNoContext, IsNoKey, IsNoTagContext, raw_words, IsRawState}
 pub use Rattle.ring.specs.Raw.{IsRawContext, IsRawKey, IsRawTagContext, AreWords, raw_chaining}
 pub use Rattle.ring.specs.Raw.{raw_digest_with, raw_tag_under, raw_tag_with, AreNumbersOf}
@@ -78,8 +78,7 @@ pub use Rattle.ring_core.specs.Cost.{Counts, compared_pairs}
 unfoldable pub use Rattle.ring_core.specs.Cost.{raised}
 pub use Rattle.ring.specs.declared.digest.algorithm.Algorithm.{Algorithm}
 pub use Rattle.ring.specs.declared.digest.algorithm.AlgorithmId.{AlgorithmId}
-pub use Rattle.ring.specs.declared.digest.algorithm.AlgorithmId.TheVariants.{Sha1, Sha256, Sha384}
-pub use Rattle.ring.specs.declared.digest.algorithm.AlgorithmId.TheVariants.{Sha512, Sha512_256}
+pub use Rattle.ring.specs.declared.digest.algorithm.AlgorithmId.TheVariants.{Sha1, Sha256}
 pub use Rattle.ring.specs.declared.digest.algorithm.TheConstants.{SHA1_FOR_LEGACY_USE_ONLY, SHA256}
 pub use Rattle.ring.specs.declared.digest.algorithm.TheConstants.{SHA384, SHA512, SHA512_256}
 pub use Rattle.ring.specs.declared.digest.dynstate.DynState.{DynState}

@@ -1,8 +1,8 @@
 -- SPDX-License-Identifier: ISC
 -- Contexts and keys as plain numbers.
 use Rattle.std.specs.Prelude.{◌≡◌, ◌<◌, ◌≤◌, ◌⊎◌, ◌+◌, ◌-◌, ◌*◌, ◌%◌, ◌^◌, ℕ, List, ◌++◌, length}
-use Rattle.std.specs.Prelude.{map, take, drop, replicate, Option, Some, None, option_map, unwrap_or}
-use Rattle.std.specs.Prelude.{if◌then◌else◌, nat_eq}
+use Rattle.std.specs.Prelude.{map, take, drop, replicate, Some, None, option_map, unwrap_or}
+pub use Rattle.ring.specs.Algorithm.{digest_named}
 use Rattle.ring.specs.Algorithm.{block_len, word_count, word_len}
 use Rattle.ring.specs.Context.{HasTaken, block_algorithm, block_words, context_algorithm}
 use Rattle.ring.specs.Context.{counted_bytes, cut_off, digest_with, filled, message_len}
@@ -13,24 +13,12 @@ use Rattle.ring.specs.Hmac.{tag_of_inner, tag_with}
 use Rattle.ring.specs.KeyBlocks.{inner_block, outer_block}
 use Rattle.ring.specs.Padding.{IsWhole}
 use Rattle.ring.specs.declared.digest.algorithm.Algorithm.{Algorithm}
-use Rattle.ring.specs.declared.digest.algorithm.TheConstants.{SHA1_FOR_LEGACY_USE_ONLY, SHA256}
-use Rattle.ring.specs.declared.digest.algorithm.TheConstants.{SHA384, SHA512, SHA512_256}
 use Rattle.ring.specs.declared.digest.block_context.BlockContext.{BlockContext}
 use Rattle.ring.specs.declared.digest.context.Context.{Context}
 use Rattle.ring.specs.declared.hmac.context.Context.{Context as TagContext}
 use Rattle.ring.specs.declared.raw.context.RawContext.{RawContext}
 use Rattle.ring.specs.declared.raw.key.RawKey.{RawKey}
 use Rattle.ring.specs.declared.raw.tag_context.RawTagContext.{RawTagContext}
-
--- the digest algorithm of a number
-abbrev pub digest_named : ℕ → Option Algorithm
-digest_named number =
-    if nat_eq number 1 then Some SHA1_FOR_LEGACY_USE_ONLY
-    else if nat_eq number 2 then Some SHA256
-    else if nat_eq number 3 then Some SHA384
-    else if nat_eq number 4 then Some SHA512
-    else if nat_eq number 5 then Some SHA512_256
-    else None
 
 -- the bytes of a block of the algorithm of a number, 0 where it names none
 unfoldable pub named_block_len : ℕ → ℕ

@@ -1,7 +1,13 @@
 -- SPDX-License-Identifier: ISC
--- The table of the algorithms (FIPS 180-4, section 1, figure 1, and sections 5.3 and 6), with no
--- word of the code.
+-- The table of the algorithms (FIPS 180-4, section 1, figure 1, and sections 5.3 and 6), and what
+-- the code calls each row.
 use Rattle.std.specs.Prelude.{ℕ, ◌-◌, ◌*◌, ◌^◌, List, [], ◌∷◌, codes}
+use Rattle.ring.specs.declared.digest.algorithm.Algorithm.{Algorithm}
+use Rattle.ring.specs.declared.digest.algorithm.AlgorithmId.{AlgorithmId}
+use Rattle.ring.specs.declared.digest.algorithm.AlgorithmId.TheVariants.{Sha1, Sha256, Sha384}
+use Rattle.ring.specs.declared.digest.algorithm.AlgorithmId.TheVariants.{Sha512, Sha512_256}
+use Rattle.ring.specs.declared.digest.algorithm.TheConstants.{SHA1_FOR_LEGACY_USE_ONLY, SHA256}
+use Rattle.ring.specs.declared.digest.algorithm.TheConstants.{SHA384, SHA512, SHA512_256}
 use Rattle.ring_core.specs.Sha1 as sha1
 use Rattle.ring_core.specs.Sha2 as sha2
 
@@ -76,3 +82,15 @@ sha512_row = row_by (codes "SHA512") 4 8 64 64 sha512_words (sha2.block_step sha
 abbrev pub sha512_256_row : Row
 sha512_256_row =
     row_by (codes "SHA512_256") 5 8 32 64 sha512_256_words (sha2.block_step sha2.family_512)
+
+-- the row of each algorithm of the code
+abbrev pub row_of : AlgorithmId → Row
+row_of Sha1 = sha1_row
+row_of Sha256 = sha256_row
+row_of Sha384 = sha384_row
+row_of Sha512 = sha512_row
+row_of Sha512_256 = sha512_256_row
+
+-- all algorithms, in the order of their numbers
+abbrev pub algorithms : List Algorithm
+algorithms = SHA1_FOR_LEGACY_USE_ONLY ∷ SHA256 ∷ SHA384 ∷ SHA512 ∷ SHA512_256 ∷ []

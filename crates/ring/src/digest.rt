@@ -105,9 +105,10 @@ mod partway;
 pub(crate) mod updates;
 
 pub use crate::digest::algorithm::{
-    Algorithm, MAX_BLOCK_LEN, MAX_CHAINING_LEN, MAX_OUTPUT_LEN, SHA1_FOR_LEGACY_USE_ONLY,
-    SHA1_OUTPUT_LEN, SHA256, SHA256_OUTPUT_LEN, SHA384, SHA384_OUTPUT_LEN, SHA512, SHA512_256,
-    SHA512_256_OUTPUT_LEN, SHA512_OUTPUT_LEN, constants_are_their_rows,
+    ALGORITHMS, Algorithm, MAX_BLOCK_LEN, MAX_CHAINING_LEN, MAX_OUTPUT_LEN,
+    SHA1_FOR_LEGACY_USE_ONLY, SHA1_OUTPUT_LEN, SHA256, SHA256_OUTPUT_LEN, SHA384,
+    SHA384_OUTPUT_LEN, SHA512, SHA512_256, SHA512_256_OUTPUT_LEN, SHA512_OUTPUT_LEN,
+    constants_are_their_rows, digest_of_name,
 };
 pub use crate::digest::block_context::{Digest, padding_is_shortest};
 pub use crate::digest::context::{Context, digest, digest_counted};

@@ -9,14 +9,13 @@ ghost use Rattle.std.specs.Prelude.{replicate, take, IsOk, None, Result, Some};
 ghost use Rattle.ring.specs.Prelude.{Algorithm, Context, Counts, HasLimits, IsNoContext, IsNoKey};
 ghost use Rattle.ring.specs.Prelude.{IsNoTagContext, Key, KeyStandsFor, RawContext, RawKey};
 ghost use Rattle.ring.specs.Prelude.{RawKeyStandsFor, RawStandsFor, RawTagContext};
-ghost use Rattle.ring.specs.Prelude.{RawTagStandsFor, SHA1_FOR_LEGACY_USE_ONLY, SHA256, SHA384};
-ghost use Rattle.ring.specs.Prelude.{SHA512, SHA512_256, StandsFor, TagStandsFor, block_len};
+ghost use Rattle.ring.specs.Prelude.{RawTagStandsFor, StandsFor, TagStandsFor, block_len};
 ghost use Rattle.ring.specs.Prelude.{compared_pairs, context_algorithm, derive_blocks};
 ghost use Rattle.ring.specs.Prelude.{digest_named, digest_of, digest_with, dk, hmac_of, joined};
 ghost use Rattle.ring.specs.Prelude.{key_algorithm};
 ghost use Rattle.ring.specs.Prelude.{named_block_len, okm, output_len, raised, raw_digest_with};
 ghost use Rattle.ring.specs.Prelude.{raw_tag_under, raw_tag_with, signing_algorithm, tag_under};
-ghost use Rattle.ring.specs.Prelude.{tag_with};
+ghost use Rattle.ring.specs.Prelude.{tag_with, word_len};
 ghost use Rattle.ring.specs.declared.hmac.context.Context.{Context as TagContext};
 ghost use Rattle.ring_core.specs.declared.error.Unspecified.{Unspecified as Refusal};
 ghost use Rattle.std.specs.Borrow.{Bor};
@@ -99,14 +98,13 @@ pub fn derivation_cost_is_of_lengths()
         → one ≡ other }
 {}
 
-/// The limits of digests, tags, outputs, infos and derivations under each algorithm, in bytes: by
-/// the longest message, a block and a digest (FIPS 180-4, section 1, figure 1).
+/// The limits of digests, tags, outputs, infos and derivations under each algorithm, of words of 4
+/// or of 8 bytes: by the longest message, a block and a digest, in bytes (FIPS 180-4, section 1,
+/// figure 1).
 pub fn limits_in_bytes()
-    ensures sha1 { HasLimits SHA1_FOR_LEGACY_USE_ONLY (2 ^ 61 - 1) 64 20 }
-    ensures sha256 { HasLimits SHA256 (2 ^ 61 - 1) 64 32 }
-    ensures sha384 { HasLimits SHA384 (2 ^ 125 - 1) 128 48 }
-    ensures sha512 { HasLimits SHA512 (2 ^ 125 - 1) 128 64 }
-    ensures sha512_256 { HasLimits SHA512_256 (2 ^ 125 - 1) 128 32 }
+    ensures short { (a : Algorithm) → word_len a ≡ 4 → HasLimits a (2 ^ 61 - 1) 64 (output_len a) }
+    ensures long { (a : Algorithm) → word_len a ≡ 8
+        → HasLimits a (2 ^ 125 - 1) 128 (output_len a) }
 {}
 
 /// Numbers whose algorithm is 0, as where the caller wrote zeros over them, are no context's and no

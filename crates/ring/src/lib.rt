@@ -5,7 +5,7 @@
 //! Each call is proved to give the standard's bytes and to be refused exactly at its limits, and
 //! each counted form to run exactly the blocks that its clause `cost` says.
 //!
-//! - [`digest`]: SHA-1, SHA-256, SHA-384, SHA-512 and SHA-512/256 (FIPS 180-4).
+//! - [`digest`]: SHA-1 and algorithms of SHA-2 (FIPS 180-4).
 //! - [`hmac`]: keys, tags and their verification (RFC 2104).
 //! - [`hkdf`]: keys derived from secrets (RFC 5869).
 //! - [`pbkdf2`]: keys derived from passwords (RFC 2898).

@@ -1,16 +1,14 @@
 -- SPDX-License-Identifier: ISC
 -- The numbers by which C names algorithms, beside those of digests, and schemes of password hashes.
-use Rattle.std.specs.Prelude.{ℕ, zero, suc, Option, Some, None, if◌then◌else◌, nat_eq}
+use Rattle.std.specs.Prelude.{ℕ, zero, suc, Option, Some, None, if◌then◌else◌, nat_eq, option_map}
+use Rattle.std.specs.Option.{option_and_then}
+use Rattle.ring.specs.Algorithm.{digest_named}
+use Rattle.ring.specs.Hkdf.{hkdf_over}
+use Rattle.ring.specs.Hmac.{hmac_over}
+use Rattle.ring.specs.Pbkdf2.{pbkdf2_over}
 use Rattle.ring.specs.declared.hkdf.algorithm.Algorithm as hkdf
-use Rattle.ring.specs.declared.hkdf.algorithm.TheConstants.{HKDF_SHA1_FOR_LEGACY_USE_ONLY}
-use Rattle.ring.specs.declared.hkdf.algorithm.TheConstants.{HKDF_SHA256, HKDF_SHA384, HKDF_SHA512}
 use Rattle.ring.specs.declared.hmac.key.Algorithm as hmac
-use Rattle.ring.specs.declared.hmac.key.TheConstants.{HMAC_SHA1_FOR_LEGACY_USE_ONLY}
-use Rattle.ring.specs.declared.hmac.key.TheConstants.{HMAC_SHA256, HMAC_SHA384, HMAC_SHA512}
 use Rattle.ring.specs.declared.pbkdf2.algorithm.Algorithm as pbkdf2
-use Rattle.ring.specs.declared.pbkdf2.algorithm.TheConstants.{PBKDF2_HMAC_SHA1, PBKDF2_HMAC_SHA256}
-use Rattle.ring.specs.declared.pbkdf2.algorithm.TheConstants.{PBKDF2_HMAC_SHA384}
-use Rattle.ring.specs.declared.pbkdf2.algorithm.TheConstants.{PBKDF2_HMAC_SHA512}
 use native.Mathlib.Nat.{zero-lt-suc}
 use Rattle.std.specs.declared.num.NonZeroU32.{NonZeroU32}
 use Rattle.ring_password_hash.specs.declared.scheme.Scheme.{Scheme}
@@ -26,26 +24,17 @@ use Rattle.ring_tokens.specs.declared.alg.Alg.TheVariants.{Hs256, Hs384, Hs512}
 use Rattle.ring_tokens.specs.declared.otp.Digits.{Digits}
 use Rattle.ring_tokens.specs.declared.otp.Digits.TheVariants.{Six, Seven, Eight}
 
--- what the first four numbers name, of four values
-abbrev pub named : {A : Type 0} → (sha1 sha256 sha384 sha512 : A) → ℕ → Option A
-named sha1 sha256 sha384 sha512 number =
-    if nat_eq number 1 then Some sha1
-    else if nat_eq number 2 then Some sha256
-    else if nat_eq number 3 then Some sha384
-    else if nat_eq number 4 then Some sha512
-    else None
-
 -- the HMAC algorithm over the digest algorithm of a number
-abbrev pub hmac_named : ℕ → Option hmac.Algorithm
-hmac_named = named HMAC_SHA1_FOR_LEGACY_USE_ONLY HMAC_SHA256 HMAC_SHA384 HMAC_SHA512
+unfoldable pub hmac_named : ℕ → Option hmac.Algorithm
+hmac_named number = option_and_then hmac_over (digest_named number)
 
 -- the HKDF algorithm over the digest algorithm of a number
-abbrev pub hkdf_named : ℕ → Option hkdf.Algorithm
-hkdf_named = named HKDF_SHA1_FOR_LEGACY_USE_ONLY HKDF_SHA256 HKDF_SHA384 HKDF_SHA512
+unfoldable pub hkdf_named : ℕ → Option hkdf.Algorithm
+hkdf_named number = option_map hkdf_over (hmac_named number)
 
 -- the PBKDF2 algorithm over the digest algorithm of a number
-abbrev pub pbkdf2_named : ℕ → Option pbkdf2.Algorithm
-pbkdf2_named = named PBKDF2_HMAC_SHA1 PBKDF2_HMAC_SHA256 PBKDF2_HMAC_SHA384 PBKDF2_HMAC_SHA512
+unfoldable pub pbkdf2_named : ℕ → Option pbkdf2.Algorithm
+pbkdf2_named number = option_map pbkdf2_over (hmac_named number)
 
 -- the scheme of password hashes of a number
 abbrev pub scheme_named : ℕ → Option Scheme

@@ -29,10 +29,10 @@ fn has_room(alg: Alg, payload_len: usize, room: usize) -> bool
 /// algorithm of the number `algorithm`, and to `token_len` how many bytes it has (RFC 7515, section
 /// 5.1). The rest of `token` is unchanged. The header is `{"alg":..,"typ":"JWT"}`.
 ///
-/// Refused as `UNKNOWN_ALGORITHM` exactly if the number is not that of SHA-256, SHA-384 or SHA-512;
-/// else as `WRONG_LENGTH` exactly if `token` is shorter than the token; else as `UNSPECIFIED`
-/// exactly if the key is shorter than a digest (RFC 7518, section 3.2), or key or payload are too
-/// long. `token` and `token_len` are then unchanged.
+/// Refused as `UNKNOWN_ALGORITHM` exactly if RFC 7518 has no HMAC algorithm over the one of the
+/// number; else as `WRONG_LENGTH` exactly if `token` is shorter than the token; else as
+/// `UNSPECIFIED` exactly if the key is shorter than a digest (RFC 7518, section 3.2), or key or
+/// payload are too long. `token` and `token_len` are then unchanged.
 #[unsafe(no_mangle)]
 pub extern "C" fn yz_jws_sign(
     algorithm: u32,
@@ -71,10 +71,10 @@ pub extern "C" fn yz_jws_sign(
 /// section 5.2). The rest of `payload` is unchanged. The header is `{"alg":..,"typ":"JWT"}`,
 /// `{"typ":"JWT","alg":..}` or `{"alg":..}`, letter by letter.
 ///
-/// Refused as `UNKNOWN_ALGORITHM` exactly if the number is not that of SHA-256, SHA-384 or SHA-512;
-/// else as `WRONG_LENGTH` exactly if `payload` is shorter than `token`; else as `UNSPECIFIED`: the
-/// text is no such token, or the key is shorter than a digest (RFC 7518, section 3.2) or too long.
-/// `payload` and `payload_len` are then unchanged.
+/// Refused as `UNKNOWN_ALGORITHM` exactly if RFC 7518 has no HMAC algorithm over the one of the
+/// number; else as `WRONG_LENGTH` exactly if `payload` is shorter than `token`; else as
+/// `UNSPECIFIED`: the text is no such token, or the key is shorter than a digest (RFC 7518, section
+/// 3.2) or too long. `payload` and `payload_len` are then unchanged.
 #[unsafe(no_mangle)]
 pub extern "C" fn yz_jws_verify(
     algorithm: u32,

@@ -7,6 +7,7 @@ ghost use Rattle.ring_tokens.specs.Otp.{digits_of};
 ghost use Rattle.ring_c.specs.Number.{count_named, digits_named, hkdf_named, hmac_named, jws_named};
 ghost use Rattle.ring_c.specs.Number.{pbkdf2_named, scheme_named};
 
+use ring::raw::digest_of_number;
 use ring::{hkdf, hmac, pbkdf2};
 use ring_password_hash::Scheme;
 use ring_tokens::Alg;
@@ -14,42 +15,27 @@ use ring_tokens::otp::Digits;
 use std::num::NonZeroU32;
 
 // The HMAC algorithm of a number.
+#[tactic(auto, unfolding(crate::specs::Number::hmac_named))]
 pub(crate) fn hmac_of_number(number: u32) -> Option<hmac::Algorithm>
     ensures { result ≡ hmac_named number }
 {
-    match number {
-        1 => Some(hmac::HMAC_SHA1_FOR_LEGACY_USE_ONLY),
-        2 => Some(hmac::HMAC_SHA256),
-        3 => Some(hmac::HMAC_SHA384),
-        4 => Some(hmac::HMAC_SHA512),
-        _ => None,
-    }
+    hmac::Algorithm::over(digest_of_number(number)?)
 }
 
 // The HKDF algorithm of a number.
+#[tactic(auto, unfolding(crate::specs::Number::hkdf_named))]
 pub(crate) fn hkdf_of_number(number: u32) -> Option<hkdf::Algorithm>
     ensures { result ≡ hkdf_named number }
 {
-    match number {
-        1 => Some(hkdf::HKDF_SHA1_FOR_LEGACY_USE_ONLY),
-        2 => Some(hkdf::HKDF_SHA256),
-        3 => Some(hkdf::HKDF_SHA384),
-        4 => Some(hkdf::HKDF_SHA512),
-        _ => None,
-    }
+    Some(hkdf::Algorithm::over(hmac_of_number(number)?))
 }
 
 // The PBKDF2 algorithm of a number.
+#[tactic(auto, unfolding(crate::specs::Number::pbkdf2_named))]
 pub(crate) fn pbkdf2_of_number(number: u32) -> Option<pbkdf2::Algorithm>
     ensures { result ≡ pbkdf2_named number }
 {
-    match number {
-        1 => Some(pbkdf2::PBKDF2_HMAC_SHA1),
-        2 => Some(pbkdf2::PBKDF2_HMAC_SHA256),
-        3 => Some(pbkdf2::PBKDF2_HMAC_SHA384),
-        4 => Some(pbkdf2::PBKDF2_HMAC_SHA512),
-        _ => None,
-    }
+    Some(pbkdf2::Algorithm::over(hmac_of_number(number)?))
 }
 
 // The algorithm of signed tokens of a number.

@@ -7,10 +7,11 @@ ghost use Rattle.std.specs.Int.NonZero.{non_zero_u32_get};
 ghost use Rattle.ring.specs.Prelude.{CanDerive, IsInfoWithin, IsOutputWithin, PrkStandsFor};
 ghost use Rattle.ring.specs.Prelude.{compared_pairs, digest_of, dk, hmac_of, joined};
 ghost use Rattle.ring.specs.Prelude.{max_input_len, okm, prk_algorithm};
+ghost use Rattle.ring.specs.declared.digest.algorithm.Algorithm.{Algorithm};
 
 use crate::basics::pairs_of_comparison;
 use crate::hkdf::Length;
-use ring::digest::{SHA1_FOR_LEGACY_USE_ONLY, SHA256, SHA256_OUTPUT_LEN, SHA384, SHA512};
+use ring::digest::{SHA256, SHA256_OUTPUT_LEN};
 use ring::error::Unspecified;
 use ring::hkdf::{HKDF_SHA256, Prk, Salt};
 use ring::laws::{
@@ -20,11 +21,10 @@ use ring::laws::{
 use ring::pbkdf2::{PBKDF2_HMAC_SHA256, derive};
 use std::num::NonZeroU32;
 
-/// Whether so many bytes of output can be asked for by each of HKDF's four algorithms: the limit of
-/// SHA-1 is the lowest.
+/// Whether so many bytes of output can be asked for under each algorithm: the limit of SHA-1 is the
+/// lowest.
 pub fn can_ask_all(len: usize) -> bool
-    ensures { IsTrue result ↔ (IsOutputWithin SHA1_FOR_LEGACY_USE_ONLY len
-        × IsOutputWithin SHA256 len × IsOutputWithin SHA384 len × IsOutputWithin SHA512 len) }
+    ensures { IsTrue result ↔ ((a : Algorithm) → IsOutputWithin a len) }
 {
     limits_in_bytes();
     len <= 5_100

@@ -12,6 +12,7 @@ pub mod hotp;
 pub mod laws;
 pub mod merkle;
 pub mod migration;
+pub mod names;
 pub mod pbkdf2;
 pub mod pieces;
 pub mod rand;

@@ -7,7 +7,7 @@ use ring::cost::Meter;
 use ring::digest::{Context, MAX_OUTPUT_LEN, SHA256, SHA512};
 use ring::error::Unspecified;
 use ring::hkdf::{HKDF_SHA256, Prk, Salt};
-use ring::hmac::{HMAC_SHA256, HMAC_SHA384, Key, sign};
+use ring::hmac::{HMAC_SHA256, HMAC_SHA512, Key, sign};
 use ring_examples::basics::{
     bit_length_field, blocks_of_digest, bytes_for_bits, is_same_token, key_bits,
     long_bit_length_field, masked_block, pairs_of_comparison, whole_and_left, xored,
@@ -192,7 +192,7 @@ fn tags_midway(rt: HostRuntime) -> Result<(), Unspecified> {
     assert!(rt; is_hex_of(TAG_OF_FRONT, front.as_ref()) && is_hex_of(TAG, all.as_ref()));
     let same = sign(&other, b"what do ya want for nothing?")?;
     assert!(rt; is_hex_of(TAG, same.as_ref()));
-    assert!(rt; tag_len(&key) == 32 && tag_len(&Key::new(HMAC_SHA384, b"Jefe")?) == 48);
+    assert!(rt; tag_len(&key) == 32 && tag_len(&Key::new(HMAC_SHA512, b"Jefe")?) == 64);
     Ok(())
 }
 

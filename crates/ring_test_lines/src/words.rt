@@ -2,6 +2,7 @@
 //! The words of a line.
 
 use crate::fault::Fault;
+use ring::digest::digest_of_name;
 use ring::hmac;
 use ring_password_hash::Scheme;
 use ring_schedules::hash::Hash;
@@ -103,13 +104,8 @@ pub fn alg_in(word: &str) -> Result<Alg, Fault> {
 
 /// The algorithm of a one-time password.
 pub fn hmac_in(word: &str) -> Result<hmac::Algorithm, Fault> {
-    match word {
-        "SHA1" => Ok(hmac::HMAC_SHA1_FOR_LEGACY_USE_ONLY),
-        "SHA256" => Ok(hmac::HMAC_SHA256),
-        "SHA384" => Ok(hmac::HMAC_SHA384),
-        "SHA512" => Ok(hmac::HMAC_SHA512),
-        _ => Err(Fault::BadLine),
-    }
+    let algorithm = digest_of_name(word.as_bytes()).ok_or(Fault::BadLine)?;
+    hmac::Algorithm::over(algorithm).ok_or(Fault::BadLine)
 }
 
 /// A number of digits.

@@ -1,7 +1,7 @@
 // SPDX-License-Identifier: ISC
 //! Algorithms are equal only to themselves.
 
-use crate::{digest, hkdf, hmac, pbkdf2_each};
+use crate::algorithms::{KEYED_ROWS, ROWS};
 
 // How many pairs of two, each also with itself, are equal.
 fn equal_pairs<T: PartialEq>(all: &[T]) -> usize {
@@ -18,8 +18,8 @@ fn equal_pairs<T: PartialEq>(all: &[T]) -> usize {
 
 #[test]
 fn algorithms_are_told_apart(rt: HostRuntime) {
-    assert!(rt; equal_pairs(&digest::ALGORITHMS) == 5);
-    assert!(rt; equal_pairs(&hmac::PIECE_LENS.map(|row| row.0)) == 4);
-    assert!(rt; equal_pairs(&hkdf::LENGTHS.map(|row| row.0)) == 4);
-    assert!(rt; equal_pairs(&pbkdf2_each::ALGORITHMS) == 4);
+    assert!(rt; equal_pairs(&ROWS.map(|row| row.algorithm)) == ROWS.len());
+    assert!(rt; equal_pairs(&KEYED_ROWS.map(|row| row.hmac)) == KEYED_ROWS.len());
+    assert!(rt; equal_pairs(&KEYED_ROWS.map(|row| row.hkdf)) == KEYED_ROWS.len());
+    assert!(rt; equal_pairs(&KEYED_ROWS.map(|row| row.pbkdf2)) == KEYED_ROWS.len());
 }

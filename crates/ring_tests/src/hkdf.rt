@@ -1,14 +1,12 @@
 // SPDX-License-Identifier: ISC
 //! Outputs of HKDF: lengths, refusals that leave buffers and meters, and what is made of an output.
 
+use crate::algorithms::KEYED_ROWS;
 use crate::texts::{is_hex_of, prints};
 use ring::cost::Meter;
 use ring::digest::{MAX_OUTPUT_LEN, SHA256, digest_counted};
 use ring::error::Unspecified;
-use ring::hkdf::{
-    Algorithm, HKDF_SHA1_FOR_LEGACY_USE_ONLY, HKDF_SHA256, HKDF_SHA384, HKDF_SHA512, KeyType, Prk,
-    Salt,
-};
+use ring::hkdf::{Algorithm, HKDF_SHA1_FOR_LEGACY_USE_ONLY, HKDF_SHA256, KeyType, Prk, Salt};
 use ring::hmac;
 use std::test::Fail;
 
@@ -24,14 +22,6 @@ impl KeyType for Length {
     }
 }
 
-/// Each algorithm with the bytes of its digests and the most bytes of an output.
-pub const LENGTHS: [(Algorithm, usize, usize); 4] = [
-    (HKDF_SHA1_FOR_LEGACY_USE_ONLY, 20, 5100),
-    (HKDF_SHA256, 32, 8160),
-    (HKDF_SHA384, 48, 12240),
-    (HKDF_SHA512, 64, 16320),
-];
-
 // Whether as many bytes may be asked for.
 fn is_expanded(algorithm: Algorithm, len: usize) -> Result<bool, Unspecified> {
     let prk = Prk::new_less_safe(algorithm, &[1])?;
@@ -41,13 +31,15 @@ fn is_expanded(algorithm: Algorithm, len: usize) -> Result<bool, Unspecified> {
     )
 }
 
+// RFC 5869, section 2.3: an output has at most 255 digests' bytes.
 #[test]
 fn lengths_asked_for(rt: HostRuntime) {
-    for (algorithm, _, most) in LENGTHS {
+    for row in KEYED_ROWS {
+        let most = row.digest.output_len.saturating_mul(255);
         assert!(rt;
-            is_expanded(algorithm, most) == Ok(true)
-                && is_expanded(algorithm, most + 1) == Ok(false)
-                && is_expanded(algorithm, usize::MAX) == Ok(false)
+            is_expanded(row.hkdf, most) == Ok(true)
+                && is_expanded(row.hkdf, most.saturating_add(1)) == Ok(false)
+                && is_expanded(row.hkdf, usize::MAX) == Ok(false)
         );
     }
 }
@@ -157,10 +149,11 @@ fn makes_what_its_bytes_make(
 #[test]
 fn keys_salts_and_prks_of_all_algorithms(rt: HostRuntime) -> Result<(), Unspecified> {
     let mut value = [0; MAX_OUTPUT_LEN];
-    for (own, _, _) in LENGTHS {
-        let prk = Prk::new_less_safe(own, b"a pseudorandom key")?;
-        for (algorithm, len, _) in LENGTHS {
-            assert!(rt; makes_what_its_bytes_make(&prk, algorithm, &mut value[..len]) == Ok(true));
+    for own in KEYED_ROWS {
+        let prk = Prk::new_less_safe(own.hkdf, b"a pseudorandom key")?;
+        for row in KEYED_ROWS {
+            let (value, _) = value.split_at_mut(row.digest.output_len.min(MAX_OUTPUT_LEN));
+            assert!(rt; makes_what_its_bytes_make(&prk, row.hkdf, value) == Ok(true));
         }
     }
     Ok(())

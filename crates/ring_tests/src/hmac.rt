@@ -1,23 +1,13 @@
 // SPDX-License-Identifier: ISC
 //! Tags: messages in whatever pieces, what keys cost, and the texts of Debug.
 
+use crate::algorithms::{KEYED_ROWS, piece_lens};
 use crate::messages::{counting_bytes, padded_blocks, takes_all};
 use crate::texts::prints;
 use ring::cost::Meter;
 use ring::error::Unspecified;
-use ring::hmac::{
-    Algorithm, Context, HMAC_SHA1_FOR_LEGACY_USE_ONLY, HMAC_SHA256, HMAC_SHA384, HMAC_SHA512, Key,
-    Tag, sign, sign_counted, verify_counted,
-};
+use ring::hmac::{Context, HMAC_SHA256, Key, Tag, sign, sign_counted, verify_counted};
 use std::test::Fail;
-
-/// Each algorithm, with pieces of one byte, and of a block, a byte less and a byte more.
-pub const PIECE_LENS: [(Algorithm, [usize; 4]); 4] = [
-    (HMAC_SHA1_FOR_LEGACY_USE_ONLY, [1, 63, 64, 65]),
-    (HMAC_SHA256, [1, 63, 64, 65]),
-    (HMAC_SHA384, [1, 127, 128, 129]),
-    (HMAC_SHA512, [1, 127, 128, 129]),
-];
 
 // Whether the context and a copy of it give the tag, when `blocks` have run.
 fn signs(
@@ -51,9 +41,9 @@ fn agrees(key: &Key, message: &[u8], piece_len: usize) -> Result<bool, Unspecifi
 #[test]
 fn agreement_in_pieces(rt: HostRuntime) -> Result<(), Unspecified> {
     let bytes = counting_bytes::<257>();
-    for (algorithm, piece_lens) in PIECE_LENS {
-        let key = Key::new(algorithm, &[0x0b; 20])?;
-        for piece_len in piece_lens {
+    for row in KEYED_ROWS {
+        let key = Key::new(row.hmac, &[0x0b; 20])?;
+        for piece_len in piece_lens(&row.digest) {
             for len in 0..258 {
                 assert!(rt; agrees(&key, &bytes[..len], piece_len)?);
             }

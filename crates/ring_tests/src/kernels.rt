@@ -5,7 +5,7 @@
 
 ghost use Rattle.std.specs.Prelude.{◌≤◌, length};
 
-use crate::digest::is_of_others;
+use crate::algorithms::is_of_others;
 use crate::messages::counting_bytes;
 use crate::ring_core_calls::{SHA1_WORDS, SHA256_WORDS, SHA512_WORDS};
 use crate::texts::is_hex_of;

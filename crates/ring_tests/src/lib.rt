@@ -5,6 +5,8 @@
 #![tactic(auto)]
 
 #[cfg(test)]
+mod algorithms;
+#[cfg(test)]
 mod digest;
 #[cfg(test)]
 mod equality;

@@ -1,7 +1,7 @@
 // SPDX-License-Identifier: ISC
 //! Keys derived from passwords: values that are verified, and what that costs.
 
-use crate::pbkdf2_each::ALGORITHMS;
+use crate::algorithms::KEYED_ROWS;
 use crate::texts::is_hex_of;
 use ring::cost::Meter;
 use ring::digest::{SHA256, digest};
@@ -65,15 +65,6 @@ fn mismatches_cost_what_matches_do(rt: HostRuntime) -> Result<(), Unspecified> {
 // The bytes of a value that has rounds for eight lanes, four and one, and a last one that is cut.
 const LONG: usize = 700;
 
-// From Python: for each algorithm the digest by SHA-256 of `hashlib.pbkdf2_hmac`'s 700 bytes, of
-// three iterations.
-const OF_LONG: [&str; 4] = [
-    "e3dcdb27116216d6bf382e7b4aa94e3d2da42fe4b29adf2855b4c068965b2770",
-    "2075cffdeda9e8f5dc42449ab51881cb5e3d913517a5ee656d3787411ed5f7f7",
-    "9654562fd446376e219b76bbcde953b2ca36123f09ee70de937c157c794025ab",
-    "5aa40e3591edf3f38e8b1db73fe5abfcdb3bd4cee002d59aa24ff755654c1fc2",
-];
-
 // Whether a long value is verified over wide vectors.
 fn is_verified_wide(algorithm: Algorithm, iterations: NonZeroU32, value: &[u8; LONG]) -> bool {
     let mut meter = Meter::new();
@@ -95,14 +86,15 @@ fn is_told_apart(algorithm: Algorithm, iterations: NonZeroU32, value: &[u8; LONG
 #[test]
 fn long_values_over_vectors_of_both_widths(rt: HostRuntime) -> Result<(), Unspecified> {
     let three = NonZeroU32::new(3).ok_or(Unspecified)?;
-    for (algorithm, expected) in ALGORITHMS.into_iter().zip(&OF_LONG) {
+    for row in KEYED_ROWS {
+        let algorithm = row.pbkdf2;
         let mut value = [0; LONG];
         derive(algorithm, three, SALT, SECRET, &mut value)?;
         let mut wide_value = [0; LONG];
         let mut meter = Meter::new();
         derive_in::<AVX2>(algorithm, three, SALT, SECRET, &mut wide_value, &mut meter)?;
         assert!(rt;
-            is_hex_of(expected, digest(&SHA256, &value)?.as_ref())
+            is_hex_of(row.of_700_bytes, digest(&SHA256, &value)?.as_ref())
                 && value == wide_value
                 && is_told_apart(algorithm, three, &value)
         );

@@ -3,58 +3,21 @@
 
 ghost use Rattle.std.specs.Prelude.{◌<◌};
 
+use crate::algorithms::KEYED_ROWS;
 use crate::messages::counting_bytes;
 use crate::texts::is_hex_of;
 use ring::cost::Meter;
 use ring::digest::{Context, Digest, SHA256};
 use ring::error::Unspecified;
 use ring::pbkdf2::{
-    Algorithm, PBKDF2_HMAC_SHA1, PBKDF2_HMAC_SHA256, PBKDF2_HMAC_SHA384, PBKDF2_HMAC_SHA512,
-    derive_each_counted, derive_each_in, verify_each_counted, verify_each_in,
+    Algorithm, PBKDF2_HMAC_SHA1, derive_each_counted, derive_each_in, verify_each_counted,
+    verify_each_in,
 };
 use ring::width::AVX2;
 use std::num::NonZeroU32;
 
-/// The four algorithms.
-pub const ALGORITHMS: [Algorithm; 4] = [
-    PBKDF2_HMAC_SHA1,
-    PBKDF2_HMAC_SHA256,
-    PBKDF2_HMAC_SHA384,
-    PBKDF2_HMAC_SHA512,
-];
-
 // The most keys at once.
 const MOST: usize = 13;
-
-// What follows is from Python: for each algorithm the digest by SHA-256 of these keys one after
-// another, each by `hashlib.pbkdf2_hmac` of three iterations from the secret and the salt below.
-const OF_20_BYTES: [&str; 4] = [
-    "d221a6505560cce915e35f74146f730dc4fa6b58b14472693170548c1327e9f9",
-    "022a740add93959572f8847b4ae12f85c5b0f359d21566f65ef9d9f40d25231a",
-    "1e4912720d9d6dae4681c05b1a4910409a19bd2bf0e1cb48bdc29d309d1bbe45",
-    "676ff42423bbe6ba215a90104c378310eff78ccde5f4bfd99394ae3a780c7cef",
-];
-
-const OF_32_BYTES: [&str; 4] = [
-    "706e34c5123e8730a5a6a19bd6550d30d077ed6bcac9d7c1508fe9fb89f54bd6",
-    "055c975b2528ef558adca7a1d71dae17652d3124450c36047b2ed723321c5667",
-    "3d3b98b079a08d12efaecb278e6825995499d0f4c04cfe7ba040308aaa478b00",
-    "3d0177cdca25e10d3f40f8a6c86cf77a24c0e73e72274958ee75b9734b1191c3",
-];
-
-const OF_64_BYTES: [&str; 4] = [
-    "23b5b1ce7b5fb77fe6a188b26fb81b3908315bbe7071550c37d51fab2a268844",
-    "12a51e833229fd6d753584abcd20963e48f5f740a088a2ee31643a58eac09eae",
-    "e7b6d0a457c579c67316292b9bc2c34799d939713249ee25883695bd30a55637",
-    "de148e4869a3a0ba4f28c96dda91cba08aa5c2aedaff0d32f2b697331a08bf2e",
-];
-
-const OF_100_BYTES: [&str; 4] = [
-    "f1d56e5592378e69580fc9a251609f78f0b44e72bc87ebeef5458ca71a0b3779",
-    "9700628fd12481335201d61188fd8f32a4b33be79f9ea5c8743faa7234a5bc5b",
-    "7a13a0f0a6ec9957b30825499a0558e8e2f1785adab2ee870087cc70d2d36efc",
-    "5845bfecb77a64dbba506fe2ec5a48a460f7781246e05037dc55987c5e138cf1",
-];
 
 // Lengths of secrets of no byte, of a block and of more.
 const SECRET_LENS: [usize; MOST] = [0, 200, 64, 3, 65, 128, 129, 17, 257, 1, 63, 127, 66];
@@ -67,7 +30,8 @@ fn fronts(bytes: &[u8; 257], lens: [usize; MOST]) -> [&[u8]; MOST] {
     lens.map(|len| &bytes[..len.min(257)])
 }
 
-// The keys of the first secrets and salts, and zeros after them, over vectors of both widths.
+// The keys of the first secrets and salts by three iterations, and zeros after them, over vectors
+// of both widths.
 fn keys_of<const N: usize>(
     algorithm: Algorithm,
     count: usize,
@@ -131,18 +95,16 @@ fn agrees_on_first<const N: usize>(
 }
 
 // Whether the keys are those of others, in any number.
-fn are_of_others<const N: usize>(digests: [&str; 4]) -> Result<bool, Unspecified>
+fn are_of_others<const N: usize>(algorithm: Algorithm, expected: &str) -> Result<bool, Unspecified>
     requires { N < 1000 }
 {
-    for (algorithm, expected) in ALGORITHMS.iter().zip(&digests) {
-        let all = keys_of::<N>(*algorithm, MOST)?;
-        if !is_hex_of(expected, digest_of(&all)?.as_ref()) {
+    let all = keys_of::<N>(algorithm, MOST)?;
+    if !is_hex_of(expected, digest_of(&all)?.as_ref()) {
+        return Ok(false);
+    }
+    for count in [0, 1, 3, 4, 5, 8, 9, 12] {
+        if !agrees_on_first(algorithm, &all, count)? {
             return Ok(false);
-        }
-        for count in [0, 1, 3, 4, 5, 8, 9, 12] {
-            if !agrees_on_first(*algorithm, &all, count)? {
-                return Ok(false);
-            }
         }
     }
     Ok(true)
@@ -150,12 +112,14 @@ fn are_of_others<const N: usize>(digests: [&str; 4]) -> Result<bool, Unspecified
 
 #[test]
 fn keys_of_any_number(rt: HostRuntime) {
-    assert!(rt;
-        are_of_others::<20>(OF_20_BYTES) == Ok(true)
-            && are_of_others::<32>(OF_32_BYTES) == Ok(true)
-            && are_of_others::<64>(OF_64_BYTES) == Ok(true)
-            && are_of_others::<100>(OF_100_BYTES) == Ok(true)
-    );
+    for row in KEYED_ROWS {
+        assert!(rt;
+            are_of_others::<20>(row.pbkdf2, row.of_20_bytes) == Ok(true)
+                && are_of_others::<32>(row.pbkdf2, row.of_32_bytes) == Ok(true)
+                && are_of_others::<64>(row.pbkdf2, row.of_64_bytes) == Ok(true)
+                && are_of_others::<100>(row.pbkdf2, row.of_100_bytes) == Ok(true)
+        );
+    }
 }
 
 // RFC 6070, its third, fifth and sixth vectors, of 20, 25 and 16 bytes, and the third again.
@@ -272,20 +236,18 @@ fn tells_one_apart<const N: usize>(
 }
 
 // The values are those that `keys_of_any_number` compares with others'.
-fn tells_each_apart<const N: usize>() -> Result<bool, Unspecified>
+fn tells_each_apart<const N: usize>(algorithm: Algorithm) -> Result<bool, Unspecified>
     requires { N < 1000 }
 {
-    for algorithm in ALGORITHMS {
-        let values = keys_of::<N>(algorithm, MOST)?;
-        for wrong in 0..MOST {
-            if !tells_one_apart(algorithm, &values, wrong, MOST)? {
-                return Ok(false);
-            }
+    let values = keys_of::<N>(algorithm, MOST)?;
+    for wrong in 0..MOST {
+        if !tells_one_apart(algorithm, &values, wrong, MOST)? {
+            return Ok(false);
         }
-        for count in [0, 1, 3, 4, 5, 8, 9, 12] {
-            if !tells_one_apart(algorithm, &values, 2, count)? {
-                return Ok(false);
-            }
+    }
+    for count in [0, 1, 3, 4, 5, 8, 9, 12] {
+        if !tells_one_apart(algorithm, &values, 2, count)? {
+            return Ok(false);
         }
     }
     Ok(true)
@@ -293,9 +255,11 @@ fn tells_each_apart<const N: usize>() -> Result<bool, Unspecified>
 
 #[test]
 fn values_that_differ(rt: HostRuntime) {
-    assert!(rt;
-        tells_each_apart::<20>() == Ok(true)
-            && tells_each_apart::<32>() == Ok(true)
-            && tells_each_apart::<100>() == Ok(true)
-    );
+    for row in KEYED_ROWS {
+        assert!(rt;
+            tells_each_apart::<20>(row.pbkdf2) == Ok(true)
+                && tells_each_apart::<32>(row.pbkdf2) == Ok(true)
+                && tells_each_apart::<100>(row.pbkdf2) == Ok(true)
+        );
+    }
 }

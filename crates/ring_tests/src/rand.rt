@@ -5,12 +5,10 @@ ghost use Rattle.std.specs.Prelude.{nat_le, min, length};
 ghost use Rattle.std.proofs.Common.{leb-true};
 ghost use Rattle.std.proofs.Math.Nat.{le_trans, min-le_right};
 
+use crate::algorithms::KEYED_ROWS;
 use crate::messages::counting_bytes;
 use ring::error::Unspecified;
-use ring::hmac::{
-    Algorithm, HMAC_SHA1_FOR_LEGACY_USE_ONLY, HMAC_SHA256, HMAC_SHA384, HMAC_SHA512, Key, sign,
-    verify,
-};
+use ring::hmac::{Algorithm, HMAC_SHA256, Key, sign, verify};
 use ring::rand::{SecureRandom, generate};
 
 // A source over a list, which is ready for at most `most` bytes at once.
@@ -109,23 +107,19 @@ fn makes_no_key(algorithm: Algorithm, bytes: &[u8], most: usize) -> bool {
 #[test]
 fn keys_in_turn(rt: HostRuntime) {
     let bytes = counting_bytes::<128>();
-    for (algorithm, len) in [
-        (HMAC_SHA1_FOR_LEGACY_USE_ONLY, 20),
-        (HMAC_SHA256, 32),
-        (HMAC_SHA384, 48),
-        (HMAC_SHA512, 64),
-    ] {
+    for row in KEYED_ROWS {
+        let len = row.digest.output_len.clamp(1, 64);
         let both = &bytes[..2 * len];
         let (first, second) = both.split_at(len);
-        assert!(rt; makes_two_keys(algorithm, both, first, second));
-        assert!(rt; makes_no_key(algorithm, both, len - 1));
+        assert!(rt; makes_two_keys(row.hmac, both, first, second));
+        assert!(rt; makes_no_key(row.hmac, both, len - 1));
     }
 }
 
 #[test]
 fn bytes_past_the_key_are_left(rt: HostRuntime) {
     let bytes = counting_bytes::<128>();
-    let mut fifty = ready_for_all(&bytes[..50]);
-    assert!(rt; is_key_of(HMAC_SHA384, &mut fifty, &bytes[..48]) == Ok(true));
-    assert!(rt; fifty.bytes == [48, 49].as_slice());
+    let mut source = ready_for_all(&bytes[..34]);
+    assert!(rt; is_key_of(HMAC_SHA256, &mut source, &bytes[..32]) == Ok(true));
+    assert!(rt; source.bytes == [32, 33].as_slice());
 }

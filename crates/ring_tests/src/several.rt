@@ -1,7 +1,7 @@
 // SPDX-License-Identifier: ISC
 //! Digests of several messages at once: agreement with other implementations, in every place.
 
-use crate::digest::{ALGORITHMS, is_of_others};
+use crate::algorithms::{ROWS, is_of_others};
 use crate::messages::{counting_bytes, padded_blocks};
 use ring::cost::Meter;
 use ring::digest::{Algorithm, Digest, digest, digest_each_counted, digest_each_in};
@@ -76,9 +76,9 @@ fn agrees_at_every_length(algorithm: Algorithm, apart: usize) -> Result<bool, Un
 
 #[test]
 fn agreement_side_by_side(rt: HostRuntime) {
-    for algorithm in ALGORITHMS {
+    for row in ROWS {
         for apart in [0, 1, 65] {
-            assert!(rt; agrees_at_every_length(algorithm, apart) == Ok(true));
+            assert!(rt; agrees_at_every_length(row.algorithm, apart) == Ok(true));
         }
     }
 }
@@ -104,9 +104,9 @@ fn agrees_on_first(algorithm: Algorithm, count: usize) -> Result<bool, Unspecifi
 
 #[test]
 fn numbers_of_messages(rt: HostRuntime) {
-    for algorithm in ALGORITHMS {
+    for row in ROWS {
         for count in 0..MOST + 1 {
-            assert!(rt; agrees_on_first(algorithm, count) == Ok(true));
+            assert!(rt; agrees_on_first(row.algorithm, count) == Ok(true));
         }
     }
 }

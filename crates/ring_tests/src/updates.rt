@@ -2,14 +2,11 @@
 //! Contexts of several messages updated at once: agreement with other implementations, in every
 //! place.
 
-use crate::digest::{ALGORITHMS, is_of_others};
+use crate::algorithms::{ROWS, is_of_others};
 use crate::messages::{counting_bytes, whole_blocks};
 use crate::several::{MOST, mixed};
 use ring::cost::Meter;
-use ring::digest::{
-    Algorithm, Context, SHA1_FOR_LEGACY_USE_ONLY, SHA256, SHA384, SHA512, update_each_counted,
-    update_each_in,
-};
+use ring::digest::{Algorithm, Context, SHA256, update_each_counted, update_each_in};
 use ring::width::AVX2;
 use std::array::from_fn;
 
@@ -87,10 +84,10 @@ fn agrees(algorithms: &[Algorithm; MOST], count: usize, cut: usize) -> bool {
 
 #[test]
 fn contexts_of_one_algorithm(rt: HostRuntime) {
-    for algorithm in ALGORITHMS {
+    for row in ROWS {
         for cut in CUTS {
             for count in 0..MOST + 1 {
-                assert!(rt; agrees(&[algorithm; MOST], count, cut));
+                assert!(rt; agrees(&[row.algorithm; MOST], count, cut));
             }
         }
     }
@@ -98,10 +95,10 @@ fn contexts_of_one_algorithm(rt: HostRuntime) {
 
 // Eight of one algorithm, five of another, three and four.
 fn mixed_algorithms() -> [Algorithm; MOST] {
-    let mut algorithms = [SHA1_FOR_LEGACY_USE_ONLY; MOST];
-    algorithms[8..13].fill(SHA256);
-    algorithms[13..16].fill(SHA512);
-    algorithms[16..].fill(SHA384);
+    let mut algorithms = [ROWS[0].algorithm; MOST];
+    algorithms[8..13].fill(ROWS[1].algorithm);
+    algorithms[13..16].fill(ROWS[2].algorithm);
+    algorithms[16..].fill(ROWS[3].algorithm);
     algorithms
 }
 

@@ -4,12 +4,12 @@
 ghost use Rattle.std.specs.Prelude.{◌≡◌, ◌↔◌, ◌≤◌, ◌-◌, IsTrue, Some, length, replicate};
 ghost use Rattle.ring_core.specs.Sha1 as sha1;
 ghost use Rattle.ring_core.specs.Prelude.{block_step, family_256, family_512};
-ghost use Rattle.ring.specs.Prelude.{AreSquareRoots, block_function, block_len};
-ghost use Rattle.ring.specs.Prelude.{chaining_len, chaining_words, digest_named, initial_words};
-ghost use Rattle.ring.specs.Prelude.{IsRowOf, is_state_of};
-ghost use Rattle.ring.specs.Prelude.{length_len, max_input_len, name_of, output_len, row, sha1_row};
-ghost use Rattle.ring.specs.Prelude.{sha256_row, sha384_row, sha512_256_row, sha512_row};
+ghost use Rattle.ring.specs.Prelude.{AreSquareRoots, algorithms, block_function, block_len};
+ghost use Rattle.ring.specs.Prelude.{chaining_len, chaining_words, digest_named, digest_of_name};
+ghost use Rattle.ring.specs.Prelude.{IsRowOf, initial_words, is_state_of};
+ghost use Rattle.ring.specs.Prelude.{length_len, max_input_len, name_of, output_len, row};
 ghost use Rattle.ring.specs.Prelude.{spare_words, word_count, words};
+ghost use Rattle.ring.specs.Table.{sha1_row, sha256_row, sha384_row, sha512_256_row, sha512_row};
 
 use crate::digest::dynstate::DynState;
 use ring_core::digest::sha1::CHAINING_LEN;
@@ -55,6 +55,15 @@ pub const SHA512: Algorithm = Algorithm {
 pub const SHA512_256: Algorithm = Algorithm {
     id: AlgorithmId::Sha512_256,
 };
+
+/// All algorithms, in the order of their numbers.
+pub const ALGORITHMS: [Algorithm; 5] = [
+    SHA1_FOR_LEGACY_USE_ONLY,
+    SHA256,
+    SHA384,
+    SHA512,
+    SHA512_256,
+];
 
 /// The length in bytes of the longest block, that of SHA-384, SHA-512 and SHA-512/256.
 pub const MAX_BLOCK_LEN: usize = 128;
@@ -261,9 +270,10 @@ pub fn constants_are_their_rows()
     ensures long_blocks { (block_function SHA384 ≡ block_step family_512)
         × (block_function SHA512 ≡ block_step family_512)
         × (block_function SHA512_256 ≡ block_step family_512) }
-    ensures sha256_words { AreSquareRoots 32 0 (initial_words SHA256) }
-    ensures sha384_words { AreSquareRoots 64 8 (initial_words SHA384) }
-    ensures sha512_words { AreSquareRoots 64 0 (initial_words SHA512) }
+    ensures all { ALGORITHMS ≡ algorithms }
+    ensures square_roots { AreSquareRoots 32 0 (initial_words SHA256)
+        × AreSquareRoots 64 8 (initial_words SHA384)
+        × AreSquareRoots 64 0 (initial_words SHA512) }
 {}
 
 /// The digest algorithm of `number`: 1 to 5, in the order of the constants, and else `None`.
@@ -277,6 +287,26 @@ pub fn digest_of_number(number: u32) -> Option<Algorithm>
         4 => Some(SHA512),
         5 => Some(SHA512_256),
         _ => None,
+    }
+}
+
+/// The digest algorithm of `name`, as Debug writes it: `SHA1`, `SHA256`, `SHA384`, `SHA512` or
+/// `SHA512_256` (FIPS 180-4, section 1), and else `None`.
+pub fn digest_of_name(name: &[u8]) -> Option<Algorithm>
+    ensures { result ≡ digest_of_name name.now }
+{
+    if name == SHA1_ROW.name.as_bytes() {
+        Some(SHA1_FOR_LEGACY_USE_ONLY)
+    } else if name == SHA256_ROW.name.as_bytes() {
+        Some(SHA256)
+    } else if name == SHA384_ROW.name.as_bytes() {
+        Some(SHA384)
+    } else if name == SHA512_ROW.name.as_bytes() {
+        Some(SHA512)
+    } else if name == SHA512_256_ROW.name.as_bytes() {
+        Some(SHA512_256)
+    } else {
+        None
     }
 }
 

@@ -2,7 +2,7 @@
 //! The four HKDF algorithms.
 
 ghost use Rattle.std.specs.Prelude.{◌≡◌};
-ghost use Rattle.ring.specs.Prelude.{hkdf_digest, hmac_digest};
+ghost use Rattle.ring.specs.Prelude.{hkdf_digest, hkdf_over, hmac_digest};
 
 use crate::digest::algorithm::{SHA1_FOR_LEGACY_USE_ONLY, SHA256, SHA384, SHA512};
 use crate::hmac::key::{
@@ -26,9 +26,10 @@ pub const HKDF_SHA384: Algorithm = Algorithm(HMAC_SHA384);
 pub const HKDF_SHA512: Algorithm = Algorithm(HMAC_SHA512);
 
 impl Algorithm {
-    // HKDF over `hmac_algorithm`.
-    pub(crate) fn over(hmac_algorithm: hmac::Algorithm) -> Self
-        ensures { hkdf_digest result ≡ hmac_digest hmac_algorithm }
+    /// HKDF over `hmac_algorithm` (RFC 5869, section 2).
+    pub fn over(hmac_algorithm: hmac::Algorithm) -> Self
+        ensures word { result ≡ hkdf_over hmac_algorithm }
+        ensures digest { hkdf_digest result ≡ hmac_digest hmac_algorithm }
     {
         Algorithm(hmac_algorithm)
     }

@@ -2,7 +2,8 @@
 //! The four HMAC algorithms, and keys: the two states of HMAC after the key's blocks.
 
 ghost use Rattle.std.specs.Prelude.{◌≡◌, ◌↔◌, ◌-◌, ◌<◌, ◌≤◌, ◌++◌, Some, codes, drop, false};
-ghost use Rattle.std.specs.Prelude.{length, replicate, take, IfOk, IsErr, OnOk, OnErr};
+ghost use Rattle.std.specs.Prelude.{length, replicate, take, IfOk, IfSome, IsErr, IsNone, OnOk};
+ghost use Rattle.std.specs.Prelude.{OnErr};
 ghost use Rattle.ring_core.specs.Cost.{raised};
 ghost use Rattle.ring.specs.Algorithm.{block_len, max_input_len, name_of, output_len};
 ghost use Rattle.ring.specs.Context.{HasTaken, block_algorithm, counted_bytes};
@@ -10,7 +11,7 @@ ghost use Rattle.ring.specs.Cost.{key_blocks, key_digest_blocks};
 ghost use Rattle.ring.specs.KeyBlocks.{key_block, masked};
 
 use crate::digest::algorithm::{
-    MAX_BLOCK_LEN, MAX_OUTPUT_LEN, SHA1_FOR_LEGACY_USE_ONLY, SHA256, SHA384, SHA512,
+    AlgorithmId, MAX_BLOCK_LEN, MAX_OUTPUT_LEN, SHA1_FOR_LEGACY_USE_ONLY, SHA256, SHA384, SHA512,
 };
 use crate::digest::block_context::BlockContext;
 use crate::digest::{self, digest_counted};
@@ -37,13 +38,20 @@ pub const HMAC_SHA384: Algorithm = Algorithm(SHA384);
 pub const HMAC_SHA512: Algorithm = Algorithm(SHA512);
 
 impl Algorithm {
-    ghost use Rattle.ring.specs.Hmac.{hmac_digest};
+    ghost use Rattle.ring.specs.Hmac.{hmac_digest, hmac_over};
+    ghost use Rattle.ring.specs.Prelude.{SHA512_256};
 
-    // HMAC over `digest_algorithm`.
-    pub(crate) fn over(digest_algorithm: digest::Algorithm) -> Self
-        ensures { hmac_digest result ≡ digest_algorithm }
+    /// HMAC over `digest_algorithm` (RFC 2104, section 2), and `None` over SHA-512/256, of which
+    /// the crate `ring` has none.
+    pub fn over(digest_algorithm: digest::Algorithm) -> Option<Self>
+        ensures word { result ≡ hmac_over digest_algorithm }
+        ensures over { IfSome result (λ algorithm. hmac_digest algorithm ≡ digest_algorithm) }
+        ensures none { IsNone result ↔ (digest_algorithm ≡ SHA512_256) }
     {
-        Algorithm(digest_algorithm)
+        match digest_algorithm.id {
+            AlgorithmId::Sha512_256 => None,
+            _ => Some(Algorithm(digest_algorithm)),
+        }
     }
 
     /// The digest algorithm that HMAC runs. A tag has its `output_len` bytes, a block its
@@ -202,7 +210,7 @@ impl Key {
     pub fn algorithm(&self) -> Algorithm
         ensures { hmac_digest result ≡ key_algorithm self.now }
     {
-        Algorithm::over(self.inner.algorithm)
+        Algorithm(self.inner.algorithm)
     }
 
     /// A copy of the key.

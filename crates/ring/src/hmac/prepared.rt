@@ -6,9 +6,8 @@ ghost use Rattle.std.proofs.Common.{refl};
 ghost use Rattle.std.specs.Prelude.{◌≡◌, ◌≢◌, ℕ, ◌+◌, ◌*◌, ◌<◌, ◌≤◌, ◌++◌, IsTrue, List, length};
 ghost use Rattle.std.specs.Prelude.{get_or, map, take};
 ghost use Rattle.ring_core.specs.Prelude.{xor_lists};
-ghost use Rattle.ring.specs.Prelude.{Algorithm, EachItem, HasKey, HasStart, IsPaddingOf, IsSet};
-ghost use Rattle.ring.specs.Prelude.{IsSha2, IsTagWithin};
-ghost use Rattle.ring.specs.Prelude.{SHA1_FOR_LEGACY_USE_ONLY, SHA256, SHA384, SHA512, SHA512_256};
+ghost use Rattle.ring.specs.Prelude.{Algorithm, EachItem, HasKey, HasStart, IsSet, IsTagWithin};
+ghost use Rattle.ring.specs.Prelude.{SHA1_FOR_LEGACY_USE_ONLY};
 ghost use Rattle.ring.specs.Prelude.{block_function, digest_bytes, digest_at, digest_of, hmac_of};
 ghost use Rattle.ring.specs.Prelude.{inner_block, is_state_of, key_algorithm, output_len};
 ghost use Rattle.ring.specs.Prelude.{KeyStandsFor, padded_blocks, prepared_padding};
@@ -18,7 +17,7 @@ use crate::digest;
 use crate::digest::algorithm::words;
 use crate::digest::dynstate::{DynState, Output, StateWord};
 use crate::digest::lanes::algorithms::{
-    DigestsOf, InVector, LaneStates, MAX_LANES, OneLane, Sha1, Sha256, Sha384, Sha512, Sha512_256,
+    DigestsOf, END_32, InVector, LaneStates, MAX_LANES, OneLane, Sha1, Suite, prepared_block,
 };
 use crate::hmac::key::Key;
 use ring_core::cost::Meter;
@@ -52,93 +51,8 @@ pub(crate) trait DigestBlock: LaneStates {
     ghost sized: { word_len algorithm ≡ Self.word_len };
 }
 
-// The bit 1 that follows a message (FIPS 180-4, sections 5.1.1 and 5.1.2), at the top of a word.
-const END_32: u32 = 1 << 31;
-
-const END_64: u64 = 1 << 63;
-
-// The prepared blocks: zeros in place of the digest's words, and the padding, which ends with the
-// number of bits in the key's block and the digest.
-
-const SHA1_PADDING: [Wrapping<u32>; 16] = words![
-    0, 0, 0, 0, 0, END_32, 0, 0, 0, 0, 0, 0, 0, 0, 0, 672
-];
-
-const SHA256_PADDING: [Wrapping<u32>; 16] = words![
-    0, 0, 0, 0, 0, 0, 0, 0, END_32, 0, 0, 0, 0, 0, 0, 768
-];
-
-const SHA384_PADDING: [Wrapping<u64>; 16] = words![
-    0, 0, 0, 0, 0, 0, END_64, 0, 0, 0, 0, 0, 0, 0, 0, 1408
-];
-
-const SHA512_PADDING: [Wrapping<u64>; 16] = words![
-    0, 0, 0, 0, 0, 0, 0, 0, END_64, 0, 0, 0, 0, 0, 0, 1536
-];
-
-const SHA512_256_PADDING: [Wrapping<u64>; 16] = words![
-    0, 0, 0, 0, END_64, 0, 0, 0, 0, 0, 0, 0, 0, 0, 0, 1280
-];
-
-// An algorithm of SHA-2 over the words `W`, of which a digest has `N`.
-pub(crate) trait Suite<W: StateWord + 'static, const N: usize> {
-    ghost algorithm: { Algorithm };
-
-    // The prepared block.
-    fn padding() -> &'static [W; 16]
-        ensures { IsPaddingOf algorithm W.bits N (map W.value result.now) };
-
-    // its block function, and its words
-    ghost sha2: { IsSha2 algorithm W.family W.len };
-}
-
-impl Suite<Wrapping<u32>, 8> for Sha256 {
-    ghost algorithm = { SHA256 };
-
-    #[inline(always)]
-    #[tactic(auto, using(crate::proofs::lemmas::hmac::Paddings::sha256_padding))]
-    fn padding() -> &'static [Wrapping<u32>; 16] {
-        &SHA256_PADDING
-    }
-
-    ghost sha2 = { record { function = refl; eight = refl; sized = refl } };
-}
-
-impl Suite<Wrapping<u64>, 6> for Sha384 {
-    ghost algorithm = { SHA384 };
-
-    #[inline(always)]
-    #[tactic(auto, using(crate::proofs::lemmas::hmac::Paddings::sha384_padding))]
-    fn padding() -> &'static [Wrapping<u64>; 16] {
-        &SHA384_PADDING
-    }
-
-    ghost sha2 = { record { function = refl; eight = refl; sized = refl } };
-}
-
-impl Suite<Wrapping<u64>, 8> for Sha512 {
-    ghost algorithm = { SHA512 };
-
-    #[inline(always)]
-    #[tactic(auto, using(crate::proofs::lemmas::hmac::Paddings::sha512_padding))]
-    fn padding() -> &'static [Wrapping<u64>; 16] {
-        &SHA512_PADDING
-    }
-
-    ghost sha2 = { record { function = refl; eight = refl; sized = refl } };
-}
-
-impl Suite<Wrapping<u64>, 4> for Sha512_256 {
-    ghost algorithm = { SHA512_256 };
-
-    #[inline(always)]
-    #[tactic(auto, using(crate::proofs::lemmas::hmac::Paddings::sha512_256_padding))]
-    fn padding() -> &'static [Wrapping<u64>; 16] {
-        &SHA512_256_PADDING
-    }
-
-    ghost sha2 = { record { function = refl; eight = refl; sized = refl } };
-}
+// The prepared block of SHA-1.
+const SHA1_PADDING: [Wrapping<u32>; 16] = prepared_block!(5, 32, END_32);
 
 impl DigestBlock for OneLane<Wrapping<u32>, Sha1> {
     ghost algorithm = { SHA1_FOR_LEGACY_USE_ONLY };

@@ -2,7 +2,7 @@
 //! The four PBKDF2 algorithms.
 
 ghost use Rattle.std.specs.Prelude.{◌≡◌};
-ghost use Rattle.ring.specs.Prelude.{hmac_digest, pbkdf2_digest};
+ghost use Rattle.ring.specs.Prelude.{hmac_digest, pbkdf2_digest, pbkdf2_over};
 
 use crate::digest::algorithm::{SHA1_FOR_LEGACY_USE_ONLY, SHA256, SHA384, SHA512};
 use crate::hmac::key::{
@@ -27,6 +27,14 @@ pub const PBKDF2_HMAC_SHA384: Algorithm = Algorithm(HMAC_SHA384);
 pub const PBKDF2_HMAC_SHA512: Algorithm = Algorithm(HMAC_SHA512);
 
 impl Algorithm {
+    /// PBKDF2 over `hmac_algorithm`.
+    pub fn over(hmac_algorithm: hmac::Algorithm) -> Self
+        ensures word { result ≡ pbkdf2_over hmac_algorithm }
+        ensures digest { pbkdf2_digest result ≡ hmac_digest hmac_algorithm }
+    {
+        Algorithm(hmac_algorithm)
+    }
+
     // The HMAC algorithm that is its pseudorandom function.
     pub(crate) fn hmac_algorithm(&self) -> hmac::Algorithm
         ensures { hmac_digest result ≡ pbkdf2_digest self.now }

@@ -13,10 +13,8 @@ ghost use Rattle.ring.specs.Prelude.{next_round, nth_round, raised, round_at, su
 
 use crate::digest::algorithm::{Algorithm, AlgorithmId};
 use crate::digest::dynstate::{OUTPUT_ROOM, Output};
-use crate::digest::lanes::algorithms::{
-    DigestsOf, InVector, MAX_LANES, OneLane, Sha1, Sha256, Sha384, Sha512, Sha512_256, by_lanes,
-    lanes_for,
-};
+// `by_lanes!` names the type of each algorithm.
+use crate::digest::lanes::algorithms::*;
 use crate::hmac::Key;
 use crate::hmac::prepared::{DigestBlock, PreparedKeys, Starts};
 use crate::pbkdf2::receiver::Receiver;

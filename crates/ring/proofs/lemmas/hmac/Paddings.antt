@@ -1,40 +1,27 @@
 -- SPDX-License-Identifier: ISC
 -- The paddings as words are the standard's, each behind a digest of its algorithm; and what a run
 -- over such a block makes of a state.
-use Rattle.std.proofs.Common.{◌≡◌, ℕ, ◌^◌, ◌%◌, ◌<◌, List, ◌++◌, length, map, take, refl, sym, ap}
-use Rattle.std.proofs.Common.{◌∙◌, arith, lit≤, mod-lt, pow_pos, take_all}
+use Rattle.std.proofs.Common.{◌≡◌, ℕ, ◌*◌, ◌^◌, ◌%◌, ◌<◌, ◌≤◌, List, ◌++◌, length, map, take, refl}
+use Rattle.std.proofs.Common.{◌∙◌, ap, arith, drop, lit≤, mod-lt, pow_pos, sym, take_all}
 use Rattle.std.proofs.lemmas.List.{length-map}
 use Rattle.std.specs.declared.num.Wrapping.{Wrapping}
 use Rattle.ring_core.specs.Prelude.{Family, IsBlockOf, block_step}
-use Rattle.ring.specs.Prelude.{Algorithm, SHA1_FOR_LEGACY_USE_ONLY, SHA256, SHA384, SHA512}
-use Rattle.ring.specs.Prelude.{IsPaddingOf, SHA512_256, digest_bytes, prepared_padding}
+use Rattle.ring.specs.Prelude.{Algorithm, IsPaddingOf, SHA1_FOR_LEGACY_USE_ONLY, digest_bytes}
+use Rattle.ring.specs.Prelude.{output_len, prepared_padding, word_bytes, word_len}
 use Rattle.ring_core.proofs.Sha2Steps.{length-block_step}
 use Rattle.ring.specs.declared.hmac.prepared.TheConstants.{SHA1_PADDING}
-use Rattle.ring.specs.declared.hmac.prepared.TheConstants.{SHA256_PADDING}
-use Rattle.ring.specs.declared.hmac.prepared.TheConstants.{SHA384_PADDING}
-use Rattle.ring.specs.declared.hmac.prepared.TheConstants.{SHA512_PADDING}
-use Rattle.ring.specs.declared.hmac.prepared.TheConstants.{SHA512_256_PADDING}
 use Rattle.ring.proofs.lemmas.digest.Words.{AllBelow, map-below, padded-words, values}
 
 pub sha1_padding : IsPaddingOf SHA1_FOR_LEGACY_USE_ONLY 32 5 (values 32 SHA1_PADDING)
 sha1_padding =
     record { bits = refl; digest = refl; room = lit≤ tt; sixteen = refl; bytes = refl }
 
-pub sha256_padding : IsPaddingOf SHA256 32 8 (values 32 SHA256_PADDING)
-sha256_padding =
-    record { bits = refl; digest = refl; room = lit≤ tt; sixteen = refl; bytes = refl }
-
-pub sha384_padding : IsPaddingOf SHA384 64 6 (values 64 SHA384_PADDING)
-sha384_padding =
-    record { bits = refl; digest = refl; room = lit≤ tt; sixteen = refl; bytes = refl }
-
-pub sha512_padding : IsPaddingOf SHA512 64 8 (values 64 SHA512_PADDING)
-sha512_padding =
-    record { bits = refl; digest = refl; room = lit≤ tt; sixteen = refl; bytes = refl }
-
-pub sha512_256_padding : IsPaddingOf SHA512_256 64 4 (values 64 SHA512_256_PADDING)
-sha512_256_padding =
-    record { bits = refl; digest = refl; room = lit≤ tt; sixteen = refl; bytes = refl }
+-- that of any algorithm, whose fields a computation shows
+pub is_padding : {a : Algorithm} {w k : ℕ} {padding : List ℕ} → w ≡ 8 * word_len a
+    → output_len a ≡ k * word_len a → k ≤ 8 → length padding ≡ 16
+    → word_bytes (word_len a) (drop k padding) ≡ prepared_padding a → IsPaddingOf a w k padding
+is_padding bits digest room sixteen bytes =
+    record { bits = bits; digest = digest; room = room; sixteen = sixteen; bytes = bytes }
 
 -- the words of a lane after a run over a digest's words and their padding, where all eight chain
 pub lane_run : {X : Type 0} {a : Algorithm} {w k : ℕ} {padding : List ℕ} {f : X → ℕ}

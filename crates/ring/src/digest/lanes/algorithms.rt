@@ -2,14 +2,16 @@
 //! Digest algorithms over chaining states in lanes: one state alone, or as many as a vector has
 //! words.
 
-ghost use Rattle.std.proofs.Common.{ap};
+ghost use Rattle.std.proofs.Common.{ap, refl};
 ghost use Rattle.std.specs.Prelude.{◌≡◌, ℕ, ◌<◌, ◌≤◌, All, List, drop, length, map};
 ghost use Rattle.ring_core.specs.Prelude.{array_at, words_of_lane, xor_lists};
-ghost use Rattle.ring.specs.Prelude.{Algorithm, CanRunTogether, EachItem, HasWords};
-ghost use Rattle.ring.specs.Prelude.{SHA1_FOR_LEGACY_USE_ONLY, SHA256, block_function, raised};
+ghost use Rattle.ring.specs.Prelude.{Algorithm, CanRunTogether, EachItem, HasWords, IsPaddingOf};
+ghost use Rattle.ring.specs.Prelude.{IsSha2, SHA1_FOR_LEGACY_USE_ONLY, block_function, raised};
 ghost use Rattle.ring.specs.Prelude.{state_word_len, word_count, word_len, words};
+ghost use Rattle.ring.specs.declared.digest.algorithm.TheConstants.{SHA256, SHA384, SHA512};
+ghost use Rattle.ring.specs.declared.digest.algorithm.TheConstants.{SHA512_256};
 
-use crate::digest::algorithm::{Algorithm, AlgorithmId};
+use crate::digest::algorithm::{Algorithm, AlgorithmId, words};
 use crate::digest::dynstate::{DynState, StateWord};
 use crate::width::{AVX2, SSE};
 use ring_core::cost::Meter;
@@ -183,6 +185,92 @@ pub(crate) struct Long;
 
 // The algorithm `A` of SHA-2, whose digests have `N` words.
 pub(crate) struct DigestsOf<A, const N: usize>(A);
+
+// The bit 1 that follows a message (FIPS 180-4, sections 5.1.1 and 5.1.2), at the top of a word.
+pub(crate) const END_32: u32 = 1 << 31;
+
+const END_64: u64 = 1 << 63;
+
+// The prepared block of an algorithm (`DigestBlock`) whose digests have `$count` words, four to
+// eight: zeros in place of these, and the padding, which ends with the number of bits in a block
+// and a digest.
+macro_rules! prepared_block {
+    ($count:expr, $word_bits:expr, $end:ident) => {
+        words![
+            0, 0, 0, 0,
+            if $count == 4 { $end } else { 0 }, if $count == 5 { $end } else { 0 },
+            if $count == 6 { $end } else { 0 }, if $count == 7 { $end } else { 0 },
+            if $count == 8 { $end } else { 0 }, 0, 0, 0,
+            0, 0, 0, $word_bits * (16 + $count)
+        ]
+    };
+}
+
+pub(crate) use prepared_block;
+
+// An algorithm of SHA-2 over the words `W`, of which a digest has `N`.
+pub(crate) trait Suite<W: StateWord + 'static, const N: usize> {
+    ghost algorithm: { Algorithm };
+
+    // The prepared block.
+    fn padding() -> &'static [W; 16]
+        ensures { IsPaddingOf algorithm W.bits N (map W.value result.now) };
+
+    // its block function, and its words
+    ghost sha2: { IsSha2 algorithm W.family W.len };
+}
+
+impl Suite<Wrapping<u32>, 8> for Sha256 {
+    ghost algorithm = { SHA256 };
+
+    #[inline(always)]
+    #[tactic(auto, using(crate::proofs::lemmas::hmac::Paddings::is_padding))]
+    fn padding() -> &'static [Wrapping<u32>; 16] {
+        const BLOCK: [Wrapping<u32>; 16] = prepared_block!(8, 32, END_32);
+        &BLOCK
+    }
+
+    ghost sha2 = { record { function = refl; eight = refl; sized = refl } };
+}
+
+impl Suite<Wrapping<u64>, 6> for Sha384 {
+    ghost algorithm = { SHA384 };
+
+    #[inline(always)]
+    #[tactic(auto, using(crate::proofs::lemmas::hmac::Paddings::is_padding))]
+    fn padding() -> &'static [Wrapping<u64>; 16] {
+        const BLOCK: [Wrapping<u64>; 16] = prepared_block!(6, 64, END_64);
+        &BLOCK
+    }
+
+    ghost sha2 = { record { function = refl; eight = refl; sized = refl } };
+}
+
+impl Suite<Wrapping<u64>, 8> for Sha512 {
+    ghost algorithm = { SHA512 };
+
+    #[inline(always)]
+    #[tactic(auto, using(crate::proofs::lemmas::hmac::Paddings::is_padding))]
+    fn padding() -> &'static [Wrapping<u64>; 16] {
+        const BLOCK: [Wrapping<u64>; 16] = prepared_block!(8, 64, END_64);
+        &BLOCK
+    }
+
+    ghost sha2 = { record { function = refl; eight = refl; sized = refl } };
+}
+
+impl Suite<Wrapping<u64>, 4> for Sha512_256 {
+    ghost algorithm = { SHA512_256 };
+
+    #[inline(always)]
+    #[tactic(auto, using(crate::proofs::lemmas::hmac::Paddings::is_padding))]
+    fn padding() -> &'static [Wrapping<u64>; 16] {
+        const BLOCK: [Wrapping<u64>; 16] = prepared_block!(4, 64, END_64);
+        &BLOCK
+    }
+
+    ghost sha2 = { record { function = refl; eight = refl; sized = refl } };
+}
 
 // A block function that runs over a block in each lane.
 pub(crate) trait RunBlocks<const N: usize>: LaneStates {

@@ -13,7 +13,7 @@ returns-then-is_sha1-clause-words c =
     let is : a ≡ SHA1_FOR_LEGACY_USE_ONLY =
     search (rules, c.if-is_sha1.ensures, c.if-is_sha1.true) in
     let row = sha1_row a.id (ap (λ (z : Algorithm). z.id) is) in
-    words_run a (As32 c.args.words.now) (As32 run.new.state) c.args.input.now row
+    words_run (As32 c.args.words.now) (As32 run.new.state) c.args.input.now row
     (rw row.count_is refl) (rw row.count_is refl) c.as_chunks.ensures.front run.ensures.words
 
 pub returns-else-is_sha1-clause-words : goal.returns-else-is_sha1-clause-words
@@ -25,6 +25,6 @@ returns-else-is_sha1-clause-words c =
     let is : a ≡ SHA1_FOR_LEGACY_USE_ONLY = ap (λ (i : AlgorithmId). record { id = i }) e in
     search (rules, c.if-is_sha1.ensures.1 is)
     ) in
-    words_run_all a (As32 c.args.words.now) (As32 run.new.state) c.args.input.now
+    words_run_all (As32 c.args.words.now) (As32 run.new.state) c.args.input.now
     (short_row a.id size other) (length-map _ _ ∙ c.told-words) (length-map _ _ ∙ run.array_long)
     c.as_chunks.ensures.front run.ensures.words

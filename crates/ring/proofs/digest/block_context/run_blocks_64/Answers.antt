@@ -9,6 +9,6 @@ pub returns-clause-words : goal.returns-clause-words
 returns-clause-words c = λ a sized.
     let run = c.block_data_order_64_fastest_counted in
     let size : 8 ≡ word_len a = search (rules, sized) in
-    words_run_all a (As64 c.args.words.now) (As64 run.new.state) c.args.input.now
+    words_run_all (As64 c.args.words.now) (As64 run.new.state) c.args.input.now
     (long_row a.id size) (length-map _ _ ∙ c.told-words) (length-map _ _ ∙ run.array_long)
     c.as_chunks.ensures.front run.ensures.words

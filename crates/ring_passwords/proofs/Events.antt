@@ -4,7 +4,7 @@ use Rattle.std.proofs.Common.{◌≡◌, ◌++◌, ◌∙◌, Bool, true, false,
 use Rattle.std.proofs.Common.{Result, Ok, Err, ap, append_assoc, refl, subst, sym}
 use Rattle.std.proofs.lemmas.List.{append-nil}
 use Rattle.std.proofs.lemmas.List.Elements.{All-append, All-cons, All-nil}
-use Rattle.std.specs.Prelude.{All, IfErr, IfOk, IsErrAnd, OnErr, OnOk, is_ok}
+use Rattle.std.specs.Prelude.{All, IfErr, IfOk, IsErrAnd, IsErrOf, OnErr, OnOk, is_ok}
 use Rattle.ring_passwords.specs.Event.{Event, Did, Does, Notes}
 use Rattle.ring_passwords.specs.Replace.{IsRefused, IsStopped}
 use Rattle.ring_passwords.specs.declared.failure.Failure.{Failure}
@@ -12,6 +12,10 @@ use Rattle.ring_passwords.specs.declared.failure.Failure.{Failure}
 pub on_err : {T E X : Type 0} (r : Result T E) → X → OnErr r X
 on_err (Ok v) x = tt
 on_err (Err e) x = x
+
+pub on_ok_weaker : {T E X Y : Type 0} (r : Result T E) → (X → Y) → OnOk r X → OnOk r Y
+on_ok_weaker (Ok v) weaker h = weaker h
+on_ok_weaker (Err e) weaker h = tt
 
 pub if_err_weaker : {T E : Type 0} {P Q : E → Type 0} (r : Result T E) → ((e : E) → P e → Q e)
     → IfErr r P → IfErr r Q
@@ -23,11 +27,20 @@ pub if_ok_weaker : {T E : Type 0} {P Q : T → Type 0} (r : Result T E) → ((v 
 if_ok_weaker (Ok v) weaker h = weaker v h
 if_ok_weaker (Err e) weaker h = tt
 
+-- of what never is, two values are the same
+pub absurd_same : {X : Type 0} (x y : X) → ⊥ → x ≡ y
+absurd_same x y never = absurd never
+
 -- what the exit of a `?` returns
 pub exits_with : {T E : Type 0} (Q : E → Type 0) {P : E → Type 0} (r : Result T E) → IsErrAnd r P
     → ((e : E) → P e → Q e) → IfErr r Q
 exits_with Q (Ok v) h weaker = tt
 exits_with Q (Err e) h weaker = weaker e h
+
+pub exits_as : {T U : Type 0} (r : Result T Failure) (failed other : Failure)
+    → IsErrAnd r (λ e. e ≡ failed) → IsErrOf {T = U} (Err failed) other → IsErrOf r other
+exits_as (Ok v) failed other h is = absurd h
+exits_as (Err e) failed other h is = cc
 
 module _ {F : Type 0} where
   pub Does-nothing : (old : Option (List (Event F))) → Does old old []
@@ -58,6 +71,18 @@ module _ {F : Type 0} where
       → IfErr r (λ failed. Did a b (Q failed))
   Did-exits Q (Ok v) h weaker = tt
   Did-exits Q (Err failed) h weaker = weaker failed h
+
+  -- of an error, or of a value, what is said of the steps before it, in other words
+  pub Did-if-err : (Q : Failure → List (Event F) → Type 0) {T : Type 0} {P : Failure → Type 0}
+      {a b : Option (List (Event F))} (r : Result T Failure)
+      → ((failed : Failure) → P failed → Did a b (Q failed)) → IfErr r P
+      → IfErr r (λ failed. Did a b (Q failed))
+  Did-if-err Q r weaker = if_err_weaker r weaker
+
+  pub Did-if-ok : {T : Type 0} (Q : T → List (Event F) → Type 0) {P : T → Type 0}
+      {a b : Option (List (Event F))} (r : Result T Failure)
+      → ((v : T) → P v → Did a b (Q v)) → IfOk r P → IfOk r (λ v. Did a b (Q v))
+  Did-if-ok Q r weaker = if_ok_weaker r weaker
 
   -- what a step notes by whether it was done
   pub on_ok_noted : {T E X : Type 0} (r : Result T E) (event : Bool → Event F)

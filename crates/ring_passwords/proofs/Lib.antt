@@ -1,6 +1,7 @@
 -- SPDX-License-Identifier: ISC
 mod Events
 mod Fits
+mod Kept
 mod Marks
 mod Ordered
 mod Replaced

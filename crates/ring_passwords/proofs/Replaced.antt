@@ -1,18 +1,23 @@
 -- SPDX-License-Identifier: ISC
 -- The steps by which a file is replaced.
-use Rattle.std.proofs.Common.{◌≡◌, ◌++◌, ℕ, Bool, true, false, List, [], ◌∷◌, Option, Some, None}
-use Rattle.std.proofs.Common.{Result, Ok, Err, inl, inr, length, refl, subst, sym}
-use Rattle.std.proofs.lemmas.List.Elements.{All-append, All-cons, All-nil, All-weaker}
+use Rattle.std.proofs.Common.{◌≡◌, ◌++◌, ◌+◌, ◌∙◌, ℕ, Bool, true, false, List, [], ◌∷◌, Option}
+use Rattle.std.proofs.Common.{Some, None, Result, Ok, Err, ap, append_assoc, arith, inl, inr}
+use Rattle.std.proofs.Common.{length, refl, subst, sym}
+use Rattle.std.proofs.lemmas.List.{append-nil, length_push}
+use Rattle.std.proofs.lemmas.List.Elements.{All-append, All-cons, All-head, All-nil, All-push}
+use Rattle.std.proofs.lemmas.List.Elements.{All-tail}
+use Rattle.std.specs.List.{flat_map}
 use Rattle.std.specs.Prelude.{All, bit_and}
 use Rattle.std.specs.declared.io.Error.{Error}
-use Rattle.ring_passwords.specs.Event.{Event, OpenFolder, RemoveUnlocked, Random, Create, Lock}
-use Rattle.ring_passwords.specs.Event.{SetMode, SetOwner, Write, Look, Sync, Rename, Remove, Did}
-use Rattle.ring_passwords.specs.Event.{Notes, ReadPassword, ReadStore, LookForLinks, LockStore}
-use Rattle.ring_passwords.specs.Event.{ReadToReplace}
+use Rattle.ring_passwords.specs.Event.{Event, OpenFolder, ListNames, NextName, Random, Create}
+use Rattle.ring_passwords.specs.Event.{Lock, SetMode, SetOwner, Write, Look, Sync, Rename, Remove}
+use Rattle.ring_passwords.specs.Event.{Did, Notes}
 use Rattle.ring_passwords.specs.Folder.{folder_in}
-use Rattle.ring_passwords.specs.Replace.{AreRemovals, IsAccess, IsAccessGiven, IsBefore, IsMade}
-use Rattle.ring_passwords.specs.Replace.{IsNotMade, IsNotReplaced, IsOwnerGiven, IsPut, IsRemoval}
-use Rattle.ring_passwords.specs.Replace.{IsReplaced, IsStopped, IsWithNew, IsRefused, granted}
+use Rattle.ring_passwords.specs.Replace.{AreVisited, IsAccess, IsAccessGiven, IsBefore}
+use Rattle.ring_passwords.specs.Replace.{IsLookedAt, IsMade, IsNotMade, IsNotReplaced}
+use Rattle.ring_passwords.specs.Replace.{IsReadLookedAt}
+use Rattle.ring_passwords.specs.Replace.{IsOwnerGiven, IsPut, IsReplaced, IsStopped, IsSwept}
+use Rattle.ring_passwords.specs.Replace.{IsVisit, IsWithNew, IsRefused, granted}
 use Rattle.ring_passwords.specs.Temporary.{temporary_of}
 use Rattle.ring_passwords.specs.declared.failure.Failure.{Failure}
 use Rattle.ring_passwords.specs.declared.failure.Failure.TheVariants as failure
@@ -120,55 +125,136 @@ module _ {F : Type 0} where
         (Does-then synced renamed);
   }
 
-  removals_before : (path : List ℕ) (events : List (Event F)) → AreRemovals path events
+  looked_before : (path name : List ℕ) (events : List (Event F)) → IsLookedAt path name events
       → All (IsBefore path) events
-  removals_before path =
-      All-weaker (IsRemoval path) (IsBefore path) (removal_before path)
-    where
-      removal_before : (path : List ℕ) (e : Event F) → IsRemoval path e → IsBefore path e
-      removal_before path (RemoveUnlocked name done) left = left
-      removal_before path (OpenFolder folder found) left = tt
-      removal_before path (Random bytes done) left = tt
-      removal_before path (Create new_path made) left = absurd left
-      removal_before path (Lock file done) left = absurd left
-      removal_before path (SetMode file mode done) left = absurd left
-      removal_before path (SetOwner file user group done) left = absurd left
-      removal_before path (Write file bytes done) left = absurd left
-      removal_before path (Look name found) left = absurd left
-      removal_before path (Sync file done) left = absurd left
-      removal_before path (Rename from to done) left = absurd left
-      removal_before path (Remove name done) left = absurd left
-      removal_before path (ReadPassword password) left = absurd left
-      removal_before path (ReadStore name text) left = absurd left
-      removal_before path (LookForLinks name single) left = absurd left
-      removal_before path (LockStore name done) left = absurd left
-      removal_before path (ReadToReplace name text) left = absurd left
+  looked_before path name events (inl (left, done, is)) =
+      subst (All (IsBefore path)) (sym is)
+      (All-cons (IsBefore path) _ [] left (All-nil (IsBefore path)))
+  looked_before path name events (inr (other, is)) =
+      subst (All (IsBefore path)) (sym is) (All-nil (IsBefore path))
+
+  read_before : (path : List ℕ) (name : Option (List ℕ)) (events : List (Event F))
+      → IsReadLookedAt path name events → All (IsBefore path) events
+  read_before path (Some name) events looked = looked_before path name events looked
+  read_before path None events is =
+      subst (All (IsBefore path)) (sym is) (All-nil (IsBefore path))
+
+  visit_before : (path : List ℕ) (events : List (Event F)) → IsVisit path events
+      → All (IsBefore path) events
+  visit_before path events (name, looked, is_looked, is) =
+      subst (All (IsBefore path)) (sym is)
+      (All-cons (IsBefore path) (NextName (Some name)) looked tt
+      (read_before path name looked is_looked))
+
+  visits_before : (path : List ℕ) (visits : List (List (Event F))) → All (IsVisit path) visits
+      → All (IsBefore path) (flat_map (λ visit. visit) visits)
+  visits_before path [] each = All-nil (IsBefore path)
+  visits_before path (visit ∷ visits) each =
+      All-append (IsBefore path) visit _
+      (visit_before path visit (All-head (IsVisit path) visit visits each))
+      (visits_before path visits (All-tail (IsVisit path) visit visits each))
+
+  visited_before : (path folder : List ℕ) (count : ℕ) (events : List (Event F))
+      → AreVisited path folder count events → All (IsBefore path) events
+  visited_before path folder count events visited =
+      subst (All (IsBefore path)) (sym visited.are)
+      (All-cons (IsBefore path) _ _ tt (visits_before path visited.visits visited.each))
+
+  pub swept_before : (path folder : List ℕ) (events : List (Event F))
+      → IsSwept path folder events → All (IsBefore path) events
+  swept_before path folder events (inl is) =
+      subst (All (IsBefore path)) (sym is)
+      (All-cons (IsBefore path) _ [] tt (All-nil (IsBefore path)))
+  swept_before path folder events (inr (inl (count, seen, are, is))) =
+      subst (All (IsBefore path)) (sym is)
+      (All-append (IsBefore path) seen (NextName None ∷ [])
+      (visited_before path folder count seen are)
+      (All-cons (IsBefore path) _ [] tt (All-nil (IsBefore path))))
+  swept_before path folder events (inr (inr are)) = visited_before path folder _ events are
+
+  -- the names of a folder are read
+
+  pub listed : (path folder : List ℕ) {a b : Option (List (Event F))}
+      → Notes a b (ListNames folder true) → Did a b (AreVisited path folder 0)
+  listed path folder notes = record {
+    events = ListNames folder true ∷ [];
+    are = record { visits = []; each = All-nil (IsVisit path); len = refl; are = refl };
+    does = notes;
+  }
+
+  joined_push : (visits : List (List (Event F))) (last : List (Event F))
+      → flat_map (λ v. v) (visits ++ last ∷ []) ≡ flat_map (λ v. v) visits ++ last
+  joined_push [] last = append-nil last
+  joined_push (first ∷ visits) last =
+      ap (λ es. first ++ es) (joined_push visits last)
+      ∙ sym (append_assoc first (flat_map (λ v. v) visits) last)
+
+  pub visited : (path folder : List ℕ) (count : ℕ) {a b c : Option (List (Event F))}
+      → Did a b (AreVisited path folder count) → Did b c (IsVisit path)
+      → Did a c (AreVisited path folder (count + 1))
+  visited path folder count before next =
+      let are = before.are in record {
+        events = before.events ++ next.events;
+        are = record {
+          visits = are.visits ++ next.events ∷ [];
+          each = All-push (IsVisit path) are.visits next.events are.each next.are;
+          len = omega (arith, length_push are.visits next.events, are.len);
+          are = ap (λ es. es ++ next.events) are.are
+              ∙ ap (λ es. ListNames folder true ∷ es)
+              (sym (joined_push are.visits next.events));
+        };
+        does = Does-then before.does next.does;
+      }
+
+  pub visit : (path : List ℕ) (name : Option (List ℕ)) {a b c : Option (List (Event F))}
+      → Notes a b (NextName (Some name)) → Did b c (IsReadLookedAt path name)
+      → Did a c (IsVisit path)
+  visit path name notes looked = record {
+    events = NextName (Some name) ∷ looked.events;
+    are = (name, looked.events, looked.are, refl);
+    does = Does-then notes looked.does;
+  }
+
+  pub swept_to_the_last : (path folder : List ℕ) (count : ℕ) {a b c : Option (List (Event F))}
+      → Did a b (AreVisited path folder count) → Notes b c (NextName None)
+      → Did a c (IsSwept path folder)
+  swept_to_the_last path folder count seen notes = record {
+    events = seen.events ++ NextName None ∷ [];
+    are = inr (inl (count, seen.events, seen.are, refl));
+    does = Does-then seen.does notes;
+  }
+
+  pub not_listed : (path folder : List ℕ) {a b : Option (List (Event F))}
+      → Notes a b (ListNames folder false) → Did a b (IsSwept path folder)
+  not_listed path folder notes = record { events = _; are = inl refl; does = notes }
 
   -- the folder is open, and what was left is removed
   pub opened_before : (path : List ℕ) (folder : F) {a b c : Option (List (Event F))}
-      → Notes a b (OpenFolder (folder_in path) (Some folder)) → Did b c (AreRemovals path)
-      → Did a c (All (IsBefore path))
-  opened_before path folder opened removed =
+      → Notes a b (OpenFolder (folder_in path) (Some folder))
+      → Did b c (IsSwept path (folder_in path)) → Did a c (All (IsBefore path))
+  opened_before path folder opened swept =
       Did-more (IsBefore path) (Did-one (IsBefore path) opened tt)
-      (Did-map (AreRemovals path) (All (IsBefore path)) (removals_before path) removed)
+      (Did-map (IsSwept path (folder_in path)) (All (IsBefore path))
+      (swept_before path (folder_in path)) swept)
 
   pub is_made : (path : List ℕ) (folder : F) (new_path : List ℕ) (new : F) (random : List ℕ)
       {a b c d e : Option (List (Event F))} → length random ≡ 8
       → new_path ≡ temporary_of path random
-      → Notes a b (OpenFolder (folder_in path) (Some folder)) → Did b c (AreRemovals path)
-      → Notes c d (Random random true) → Notes d e (Create new_path (Some new))
+      → Notes a b (OpenFolder (folder_in path) (Some folder))
+      → Did b c (IsSwept path (folder_in path)) → Notes c d (Random random true)
+      → Notes d e (Create new_path (Some new))
       → Did a e (IsMade path folder new_path new)
-  is_made path folder new_path new random len named opened removed drawn made = record {
+  is_made path folder new_path new random len named opened swept drawn made = record {
     events = _;
     are = record {
       random = random;
-      removals = removed.events;
+      swept = swept.events;
       len = len;
       named = named;
-      removed = removed.are;
+      is_swept = swept.are;
       are = refl;
     };
-    does = Does-then (Does-then opened removed.does) (Does-then drawn made);
+    does = Does-then (Does-then opened swept.does) (Does-then drawn made);
   }
 
   -- the system refuses a step before the file is made

@@ -1,7 +1,8 @@
 -- SPDX-License-Identifier: ISC
 -- What is done with files, step by step.
-use Rattle.std.specs.Prelude.{◌≡◌, ℕ, Bool, List, [], ◌∷◌, ◌++◌, Option, Some}
+use Rattle.std.specs.Prelude.{◌≡◌, ℕ, Bool, List, [], ◌∷◌, ◌++◌, Option, Some, None}
 use Rattle.std.specs.Prelude.{Result, Ok, Err}
+use Rattle.std.specs.declared.io.Error.{Error}
 use Rattle.std.specs.declared.vec.Vec.{Vec}
 use Rattle.ring_passwords.specs.declared.failure.Failure.{Failure}
 use Rattle.ring_passwords.specs.declared.steps.Access.{Access}
@@ -9,6 +10,8 @@ use Rattle.ring_passwords.specs.declared.steps.Access.{Access}
 -- a step, and whether it was done; where it gives a value, the value if it was
 pub data Event (F : Type 0) : Type 0 where
   OpenFolder : (path : List ℕ) (folder : Option F) → Event F
+  ListNames : (folder : List ℕ) (done : Bool) → Event F
+  NextName : (name : Option (Option (List ℕ))) → Event F
   RemoveUnlocked : (name : List ℕ) (done : Bool) → Event F
   Random : (bytes : List ℕ) (done : Bool) → Event F
   Create : (path : List ℕ) (file : Option F) → Event F
@@ -30,6 +33,17 @@ pub data Event (F : Type 0) : Type 0 where
 abbrev pub bytes_read : {A : Type 0} → Result (Vec ℕ A) Failure → Result (List ℕ) Failure
 bytes_read (Ok bytes) = Ok bytes.items
 bytes_read (Err failed) = Err failed
+
+-- the name that is read of a folder, if it can be
+abbrev pub name_in : {N : Type 0} → (name : N → List ℕ) → Result N Error → Option (List ℕ)
+name_in name (Ok entry) = Some (name entry)
+name_in name (Err error) = None
+
+-- the same where there may be none any more
+abbrev pub name_read : {N : Type 0} → (name : N → List ℕ) → Option (Result N Error)
+    → Option (Option (List ℕ))
+name_read name (Some entry) = Some (name_in name entry)
+name_read name None = None
 
 -- what was done grows by these, where it is known
 pub record Does {F : Type 0} (old new : Option (List (Event F))) (events : List (Event F))

@@ -1,11 +1,13 @@
 -- SPDX-License-Identifier: ISC
 -- How a file is replaced, step by step.
-use Rattle.std.specs.Prelude.{◌≡◌, ◌⊎◌, ℕ, Bool, true, false, List, [], ◌∷◌, ◌++◌, Some}
+use Rattle.std.specs.Prelude.{◌≡◌, ◌⊎◌, ℕ, Bool, true, false, List, [], ◌∷◌, ◌++◌, Option, Some}
 use Rattle.std.specs.Prelude.{None, Result, Ok, Err, All, bit_and, length}
+use Rattle.std.specs.List.{flat_map}
 use Rattle.std.specs.Path.{path_file_name}
 use Rattle.std.specs.declared.io.Error.{Error}
 use Rattle.hex.specs.Hex.{IsBytes}
-use Rattle.ring_passwords.specs.Event.{Event, OpenFolder, RemoveUnlocked, Random, Create, Lock}
+use Rattle.ring_passwords.specs.Event.{Event, OpenFolder, ListNames, NextName, RemoveUnlocked}
+use Rattle.ring_passwords.specs.Event.{Random, Create, Lock}
 use Rattle.ring_passwords.specs.Event.{SetMode, SetOwner, Write, Look, Sync, Rename, Remove}
 use Rattle.ring_passwords.specs.Failure.{IsOfSystem}
 use Rattle.ring_passwords.specs.Folder.{folder_in}
@@ -46,35 +48,57 @@ pub record IsLeftOver (path name : List ℕ) : Type 0 where
   pub beside : path_file_name path ≡ Some file
   pub has : name ≡ temporary_of file random
 
--- a temporary file of the path's file is removed, unless a process has locked it
-abbrev pub IsRemoval : {F : Type 0} → (path : List ℕ) → Event F → Type 0
-IsRemoval path (RemoveUnlocked name done) = IsLeftOver path name
-IsRemoval path _ = ⊥
-
-abbrev pub AreRemovals : {F : Type 0} → (path : List ℕ) → List (Event F) → Type 0
-AreRemovals path events = All (IsRemoval path) events
-
--- if the name is that of a temporary file of the path's file, that is removed, and else nothing is
--- done
+-- if the name is that of a temporary file of the path's file, that is removed unless a process has
+-- locked it, and else nothing is done
 abbrev pub IsLookedAt : {F : Type 0} → (path name : List ℕ) → List (Event F) → Type 0
 IsLookedAt path name events =
     (IsLeftOver path name × (done : Bool) × (events ≡ RemoveUnlocked name done ∷ []))
     ⊎ ((¬ IsLeftOver path name) × (events ≡ []))
 
--- a new file is made beside a path's file, with a name of 8 random bytes
+-- nothing is done with a name that cannot be read
+abbrev pub IsReadLookedAt : {F : Type 0} → (path : List ℕ) → (name : Option (List ℕ))
+    → List (Event F) → Type 0
+IsReadLookedAt path (Some name) events = IsLookedAt path name events
+IsReadLookedAt path None events = events ≡ []
+
+-- a name is read and looked at
+abbrev pub IsVisit : {F : Type 0} → (path : List ℕ) → List (Event F) → Type 0
+IsVisit path events = (name : Option (List ℕ)) × (looked : List (Event _))
+    × IsReadLookedAt path name looked × (events ≡ NextName (Some name) ∷ looked)
+
+-- so many names of the folder are read, one after another
+pub record AreVisited {F : Type 0} (path folder : List ℕ) (count : ℕ) (events : List (Event F))
+    : Type 0 where
+  pub visits : List (List (Event F))
+  pub each : All (IsVisit path) visits
+  pub len : length visits ≡ count
+  pub are : events ≡ ListNames folder true ∷ flat_map (λ visit. visit) visits
+
+-- all names of the folder are read, or as many as 64 bits count; or the folder gives none
+abbrev pub IsSwept : {F : Type 0} → (path folder : List ℕ) → List (Event F) → Type 0
+IsSwept path folder events =
+    (events ≡ ListNames folder false ∷ [])
+    ⊎ ((count : ℕ) × (visited : List (Event _)) × AreVisited path folder count visited
+    × (events ≡ visited ++ NextName None ∷ []))
+    ⊎ AreVisited path folder 18446744073709551615 events
+
+-- a new file is made beside a path's file, with a name of 8 random bytes, once what was left there
+-- is removed
 pub record IsMade {F : Type 0} (path : List ℕ) (folder : F) (new_path : List ℕ) (new : F)
     (events : List (Event F)) : Type 0 where
   pub random : List ℕ
-  pub removals : List (Event F)
+  pub swept : List (Event F)
   pub len : length random ≡ 8
   pub named : new_path ≡ temporary_of path random
-  pub removed : AreRemovals path removals
-  pub are : events ≡ (OpenFolder (folder_in path) (Some folder) ∷ removals)
+  pub is_swept : IsSwept path (folder_in path) swept
+  pub are : events ≡ (OpenFolder (folder_in path) (Some folder) ∷ swept)
       ++ Random random true ∷ Create new_path (Some new) ∷ []
 
 -- a step before a new file is made, or one that makes none
 abbrev pub IsBefore : {F : Type 0} → (path : List ℕ) → Event F → Type 0
 IsBefore path (OpenFolder folder found) = Unit {0}
+IsBefore path (ListNames folder done) = Unit {0}
+IsBefore path (NextName name) = Unit {0}
 IsBefore path (RemoveUnlocked name done) = IsLeftOver path name
 IsBefore path (Random bytes done) = Unit {0}
 IsBefore path (Create new_path None) = Unit {0}
@@ -165,3 +189,24 @@ IsNotReplaced path text failed events =
     IsNotMade path failed events
     ⊎ (IsOfSystem step.Replace failed × IsUndone path events)
     ⊎ (IsOfSystem step.SyncFolder failed × IsReplaced path text false events)
+
+-- the path is that of a temporary file of the path's file
+abbrev pub IsNewPath : (path new_path : List ℕ) → Type 0
+IsNewPath path new_path =
+    (random : List ℕ) × (length random ≡ 8) × (new_path ≡ temporary_of path random)
+
+-- a step that keeps the path's file: the new one, if any, is a temporary file and the only one that
+-- is written to, no file takes the path, and only temporary files are removed
+abbrev pub IsKeeping : {F : Type 0} → (path : List ℕ) → (new : Option F) → Event F → Type 0
+IsKeeping path new (RemoveUnlocked name done) = IsLeftOver path name
+IsKeeping path new (Create new_path (Some file)) = IsNewPath path new_path × (Some file ≡ new)
+IsKeeping path new (SetMode file mode done) = Some file ≡ new
+IsKeeping path new (SetOwner file user group done) = Some file ≡ new
+IsKeeping path new (Write file bytes done) = Some file ≡ new
+IsKeeping path new (Rename from to done) = done ≡ false
+IsKeeping path new (Remove new_path done) = IsNewPath path new_path
+IsKeeping path new _ = Unit {0}
+
+-- the path's file stays as it is
+abbrev pub IsKept : {F : Type 0} → (path : List ℕ) → List (Event F) → Type 0
+IsKept path events = (new : Option _) × All (IsKeeping path new) events

@@ -11,7 +11,7 @@ ghost use Rattle.ring_store.specs.Store.{admission, is_name, knows, new_store, r
 ghost use Rattle.ring_store.specs.Store.{verdict, verify_blocks, with_password, without};
 ghost use Rattle.ring_store.specs.declared.store.PasswordStore.{PasswordStore};
 ghost use Rattle.ring_store_text.specs.Text.{IsStore, IsText, text_of};
-ghost use Rattle.ring_passwords.specs.Change.{IsCountOfNew, told, with_given};
+ghost use Rattle.ring_passwords.specs.Change.{IsCountOfNew, IsNoStore, told, with_given};
 ghost use Rattle.ring_passwords.specs.Failure.{status_of};
 ghost use Rattle.ring_passwords.specs.Salt.{IsDrawn, IsNotDrawn};
 
@@ -161,8 +161,7 @@ pub fn store_in(alloc: Global, text: &[u8]) -> Result<PasswordStore, Failure>
     ensures refused { IsErrOf result Failure.NotAStore
         → (store : PasswordStore Global) → IsStore store → text_of store ≢ text.now }
     ensures memory { IsErrOf result Failure.Memory → IsText Global text.now }
-    ensures failure { IfErr result (λ failure.
-        (failure ≡ Failure.NotAStore) ⊎ (failure ≡ Failure.Memory)) }
+    ensures failure { IfErr result (IsNoStore text.now) }
 {
     match from_text(alloc, text) {
         Ok(store) => Ok(store),

@@ -1,7 +1,7 @@
 // SPDX-License-Identifier: ISC
 //! The steps as a folder in memory takes them, each written down.
 
-ghost use Rattle.std.specs.Prelude.{◌≡◌, ℕ, Err, Ok, Some, is_ok, map, string_bytes};
+ghost use Rattle.std.specs.Prelude.{◌≡◌, ℕ, Err, None, Ok, Some, is_ok, map, string_bytes};
 ghost use Rattle.ring_passwords.specs.Event.{Event, Notes, bytes_read};
 ghost use Rattle.ring_passwords.specs.Event as event;
 ghost use Rattle.ring_passwords.specs.declared.disk.Note.TheVariants as note;
@@ -16,6 +16,10 @@ use std::process::Abort;
 #[derive(Drop)]
 enum Note {
     OpenFolder(Vec<u8>, Option<u32>),
+    ListNames(Vec<u8>, bool),
+    NextName(Vec<u8>),
+    BadName,
+    NoName,
     RemoveUnlocked(Vec<u8>, bool),
     Random(Vec<u8>, bool),
     Create(Vec<u8>, Option<u32>),
@@ -42,6 +46,10 @@ trait Tells {
 impl Tells for Note {
     ghost event = { elim [
       | note.OpenFolder path folder ↦ event.OpenFolder path.items folder
+      | note.ListNames folder done ↦ event.ListNames folder.items done
+      | note.NextName name ↦ event.NextName (Some (Some name.items))
+      | note.BadName ↦ event.NextName (Some None)
+      | note.NoName ↦ event.NextName None
       | note.RemoveUnlocked name done ↦ event.RemoveUnlocked name.items done
       | note.Random bytes done ↦ event.Random bytes.items done
       | note.Create path file ↦ event.Create path.items file
@@ -141,12 +149,29 @@ impl<R: Abort + AllocGlobal> Steps for Disk<'_, R> {
         folder.ok_or(io::Error::from(io::ErrorKind::Other))
     }
 
-    fn names(&mut self, _folder: &str) -> io::Result<Vec<String>> {
-        self.folder.names(self.rt.alloc())
+    fn names(&mut self, folder: &str) -> io::Result<Vec<String>> {
+        let names = self.folder.names(self.rt.alloc());
+        let folder = copy(self.rt, folder.as_bytes());
+        self.note(Note::ListNames(folder, names.is_ok()));
+        names
     }
 
     fn next_name(&mut self, names: &mut Vec<String>) -> Option<io::Result<String>> {
-        self.folder.next_name(names)
+        match self.folder.next_name(names) {
+            Some(Ok(name)) => {
+                let noted = copy(self.rt, name.as_bytes());
+                self.note(Note::NextName(noted));
+                Some(Ok(name))
+            }
+            Some(Err(error)) => {
+                self.note(Note::BadName);
+                Some(Err(error))
+            }
+            None => {
+                self.note(Note::NoName);
+                None
+            }
+        }
     }
 
     fn name_of<'a>(&self, entry: &'a String) -> &'a str {

@@ -7,7 +7,7 @@ ghost use Rattle.std.specs.Int.NonZero.{non_zero_u32_get};
 ghost use Rattle.std.specs.Io.KnownBytes.{Appends};
 ghost use Rattle.ring_password_hash.specs.Scheme.{kept_len_of};
 ghost use Rattle.ring_password_hash.specs.Stored.{IsStored, can_keep, new_parts, parts_of, text_of};
-ghost use Rattle.ring_passwords.specs.Encode.{IsPrepared, advised, salt_of};
+ghost use Rattle.ring_passwords.specs.Encode.{IsNotWritten, IsPrepared, advised, salt_of};
 ghost use Rattle.ring_passwords.specs.Failure.{IsOfSystem, status_of};
 ghost use Rattle.ring_passwords.specs.Salt.{IsDrawn};
 ghost use Rattle.ring_passwords.specs.declared.failure.Step.TheVariants.{WriteText};
@@ -121,6 +121,8 @@ pub fn encode<W: Write>(
         (length (salt_of scheme random)) (kept_len_of scheme) ≡ false }
     ensures failure { IfErr result (λ failure. (failure ≡ Failure.NeedsPreparation)
         ⊎ (failure ≡ Failure.TooLong) ⊎ IsOfSystem WriteText failure) }
+    ensures unchanged { IfErr result (λ failure. ¬ (IsOfSystem WriteText failure)
+        → W.contents writer.new ≡ W.contents writer.old) }
 {
     let stored = new_value(scheme, password, iterations, random)?;
     write_text(&stored, writer)
@@ -138,6 +140,10 @@ pub fn encode_salted<S: Steps, W: Write>(
         × IsDrawn (S.events steps.old) (S.events steps.new) salt
         × Appends (W.contents writer.old) (W.contents writer.new)
         (text_of (new_parts scheme password.now (salt_of scheme salt) iterations) ++ 10 ∷ [])) }
+    ensures refused { IfErr result (λ failure. IsNotWritten (S.events steps.old)
+        (S.events steps.new) scheme password.now failure) }
+    ensures unchanged { IfErr result (λ failure. ¬ (IsOfSystem WriteText failure)
+        → W.contents writer.new ≡ W.contents writer.old) }
     ensures status { IfErr result (λ failure. status_of failure ≡ 2) }
 {
     let random = salt(steps)?;

@@ -1,11 +1,15 @@
 // SPDX-License-Identifier: ISC
 //! In which order a store's file and the password are read.
 
-ghost use Rattle.std.specs.Prelude.{◌≡◌, ◌≢◌, ◌⊎◌, IfErr, IfOk, true};
+ghost use Rattle.std.specs.Prelude.{◌≡◌, ◌≢◌, ◌⊎◌, IfErr, IfOk, IsErrOf, OnOk, false, true};
+ghost use Rattle.ring_store.specs.Store.{is_name};
 ghost use Rattle.ring_passwords.specs.Event.{Did};
-ghost use Rattle.ring_passwords.specs.Failure.{status_of};
-ghost use Rattle.ring_passwords.specs.Order.{IsBegun, IsFirstLook, IsLoaded, IsNotSeen, IsNotSet};
-ghost use Rattle.ring_passwords.specs.Order.{IsSet, IsVerified};
+ghost use Rattle.ring_passwords.specs.Failure.{IsOfSystem, status_of};
+ghost use Rattle.ring_passwords.specs.Order.{IsBegun, IsFirstLook, IsGone, IsLoaded, IsNotBegun};
+ghost use Rattle.ring_passwords.specs.Order.{IsNotLooked, IsNotRemoved, IsNotSeen, IsNotSet};
+ghost use Rattle.ring_passwords.specs.Order.{IsRemoved, IsSet, IsVerified};
+ghost use Rattle.ring_passwords.specs.Replace.{IsKept};
+ghost use Rattle.ring_passwords.specs.declared.failure.Step.TheVariants.{SyncFolder};
 
 use crate::change;
 use crate::change::is_made;
@@ -28,6 +32,8 @@ fn look<S: Steps>(
         (IsLoaded path.now store)) }
     ensures refused { IfErr result (λ failure. Did (S.events steps.old) (S.events steps.new)
         (IsNotSeen path.now failure)) }
+    ensures bad_name { is_name name.now ≡ false → IsErrOf result Failure.BadName
+        × (S.events steps.new ≡ S.events steps.old) }
     ensures status { IfErr result (λ failure. status_of failure ≡ 2) }
 {
     change::require_name(name)?;
@@ -43,6 +49,8 @@ pub fn verify_in_file<S: Steps>(
 ) -> Result<(), Failure>
     ensures tested { Did (S.events steps.old) (S.events steps.new)
         (IsVerified Global path.now name.now result) }
+    ensures bad_name { is_name name.now ≡ false → IsErrOf result Failure.BadName
+        × (S.events steps.new ≡ S.events steps.old) }
     ensures status { IfErr result (λ failure. (status_of failure ≡ 2)
         ⊎ (failure ≡ Failure.WrongNameOrPassword)) }
 {
@@ -73,7 +81,9 @@ fn is_missing<S: Steps>(
     ensures ok { IfOk result (λ missing. Did (S.events steps.old) (S.events steps.new)
         (IsFirstLook path.now missing)) }
     ensures refused { IfErr result (λ failure. Did (S.events steps.old) (S.events steps.new)
-        (IsNotSet path.now failure)) }
+        (IsNotLooked path.now failure)) }
+    ensures bad_name { is_name name.now ≡ false → IsErrOf result Failure.BadName
+        × (S.events steps.new ≡ S.events steps.old) }
     ensures status { IfErr result (λ failure. status_of failure ≡ 2) }
 {
     match look(alloc, steps, path, name) {
@@ -105,7 +115,9 @@ fn begin<'a, S: Steps>(
         × Did (S.events steps.old) (S.events steps.new)
         (IsBegun path.now given begun.password.items begun.store)) }
     ensures refused { IfErr result (λ failure. Did (S.events steps.old) (S.events steps.new)
-        (IsNotSet path.now failure)) }
+        (IsNotBegun path.now failure)) }
+    ensures bad_name { is_name name.now ≡ false → IsErrOf result Failure.BadName
+        × (S.events steps.new ≡ S.events steps.old) }
     ensures status { IfErr result (λ failure. status_of failure ≡ 2) }
 {
     let was_missing = is_missing(alloc, steps, path, name)?;
@@ -131,7 +143,13 @@ pub fn set_in_file<S: Steps>(
     ensures ok { IfOk result (λ count. Did (S.events steps.old) (S.events steps.new)
         (IsSet Global path.now name.now iterations count)) }
     ensures refused { IfErr result (λ failure. Did (S.events steps.old) (S.events steps.new)
-        (IsNotSet path.now failure)) }
+        (IsNotSet Global path.now name.now iterations failure)) }
+    ensures gone { IfErr result (λ failure. Did (S.events steps.old) (S.events steps.new)
+        (IsGone path.now failure)) }
+    ensures unchanged { IfErr result (λ failure. ¬ (IsOfSystem SyncFolder failure)
+        → Did (S.events steps.old) (S.events steps.new) (IsKept path.now)) }
+    ensures bad_name { is_name name.now ≡ false → IsErrOf result Failure.BadName
+        × (S.events steps.new ≡ S.events steps.old) }
     ensures status { IfErr result (λ failure. status_of failure ≡ 2) }
 {
     let Begun {
@@ -144,13 +162,19 @@ pub fn set_in_file<S: Steps>(
     Ok(store.iterations())
 }
 
-/// Removes a name from a file.
+/// Removes a name from a file. The file that is replaced is the one that is read under the lock.
 pub fn remove_from_file<S: Steps>(
     alloc: Global,
     steps: &mut S,
     path: &str,
     name: &[u8],
 ) -> Result<(), Failure>
+    ensures ok { OnOk result (Did (S.events steps.old) (S.events steps.new)
+        (IsRemoved Global path.now name.now)) }
+    ensures refused { IfErr result (λ failure. Did (S.events steps.old) (S.events steps.new)
+        (IsNotRemoved Global path.now name.now failure)) }
+    ensures unchanged { IfErr result (λ failure. ¬ (IsOfSystem SyncFolder failure)
+        → Did (S.events steps.old) (S.events steps.new) (IsKept path.now)) }
     ensures status { IfErr result (λ failure. (status_of failure ≡ 2)
         ⊎ (failure ≡ Failure.NoSuchName)) }
 {

@@ -3,7 +3,7 @@
 
 ghost use Rattle.std.specs.Prelude.{◌≡◌, ℕ, List, Option, IfErr, is_ok, length};
 ghost use Rattle.std.specs.Result.{result_ok};
-ghost use Rattle.ring_passwords.specs.Event.{Event, Notes, bytes_read};
+ghost use Rattle.ring_passwords.specs.Event.{Event, Notes, bytes_read, name_read};
 ghost use Rattle.ring_passwords.specs.Event as event;
 ghost use Rattle.ring_passwords.specs.Failure.{IsNoPassword, IsNotLocked, status_of};
 
@@ -48,11 +48,13 @@ pub trait Steps {
 
     /// The names in a folder.
     fn names(&mut self, folder: &str) -> io::Result<Self::Names>
-        ensures { events self.new ≡ events self.old };
+        ensures { Notes (events self.old) (events self.new)
+            (event.ListNames folder.now (is_ok result)) };
 
     /// The next of the names.
     fn next_name(&mut self, names: &mut Self::Names) -> Option<io::Result<Self::Entry>>
-        ensures { events self.new ≡ events self.old };
+        ensures { Notes (events self.old) (events self.new)
+            (event.NextName (name_read name result)) };
 
     /// The bytes of a name.
     fn name_of<'a>(&self, entry: &'a Self::Entry) -> &'a str

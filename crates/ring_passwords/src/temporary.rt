@@ -2,13 +2,14 @@
 //! The temporary file that takes a store's place: its name, and what interrupted runs left.
 
 ghost use Rattle.std.specs.Prelude.{◌≡◌, ◌↔◌, IfOk, IsTrue, string_bytes};
-ghost use Rattle.ring_passwords.specs.Event.{Did};
-ghost use Rattle.ring_passwords.specs.Replace.{AreRemovals, IsLeftOver, IsLookedAt};
+ghost use Rattle.ring_passwords.specs.Event.{Did, name_in};
+ghost use Rattle.ring_passwords.specs.Replace.{IsLeftOver, IsLookedAt, IsReadLookedAt, IsSwept};
 ghost use Rattle.ring_passwords.specs.Temporary.{IsTemporary, temporary_of};
 
 use crate::steps::Steps;
 use ring_text::fill_from_hex;
 use std::alloc::{AllocError, Global};
+use std::io;
 use std::path::Path;
 
 /// What the name has behind that of the store's file, before the digits.
@@ -46,17 +47,27 @@ pub fn temporary_path(alloc: Global, path: &str, random: &[u8]) -> Result<String
 ///
 /// A file that cannot be looked at or removed stays: it is in nobody's way.
 pub fn remove_left_over<S: Steps>(steps: &mut S, folder: &str, path: &str)
-    ensures { Did (S.events steps.old) (S.events steps.new) (AreRemovals path.now) }
+    ensures { Did (S.events steps.old) (S.events steps.new) (IsSwept path.now folder.now) }
 {
     let Ok(mut names) = steps.names(folder) else {
         return;
     };
-    for _ in 0..u64::MAX {
-        match steps.next_name(&mut names) {
-            Some(Ok(entry)) => remove_if_left_over(steps, path, &entry),
-            Some(Err(_)) => {}
-            None => return,
-        }
+    'names: for _read in 0..u64::MAX {
+        let Some(name) = steps.next_name(&mut names) else {
+            return;
+        };
+        look_at(steps, path, name);
+    }
+}
+
+/// Looks at a name, if it can be read.
+fn look_at<S: Steps>(steps: &mut S, path: &str, name: io::Result<S::Entry>)
+    ensures { Did (S.events steps.old) (S.events steps.new)
+        (IsReadLookedAt path.now (name_in S.name name)) }
+{
+    match name {
+        Ok(entry) => remove_if_left_over(steps, path, &entry),
+        Err(_) => {}
     }
 }
 

@@ -23,7 +23,8 @@ returns-in_err-granted-clause-refused g c =
     let path = c.args.path.now in
     let folder = granted_is c.open_folder.result c.in_ok-folder.folder c.in_ok-folder.ensures in
     let opened = rw (folder, c.folder_of-folder_path.ensures) at c.open_folder.ensures in
-    let before = opened_before path c.in_ok-folder.folder opened c.remove_left_over.ensures in
+    let swept = rw c.folder_of-folder_path.ensures at c.remove_left_over.ensures in
+    let before = opened_before path c.in_ok-folder.folder opened swept in
     Did-exits (IsNotMade path) c.from_residual-in_err-granted.result
     c.from_residual-in_err-granted.ensures.1
     (λ failed is. rw is (stops_before path c.random.result _
@@ -35,7 +36,8 @@ returns-in_err-new_path-clause-refused g c =
     let path = c.args.path.now in
     let folder = granted_is c.open_folder.result c.in_ok-folder.folder c.in_ok-folder.ensures in
     let opened = rw (folder, c.folder_of-folder_path.ensures) at c.open_folder.ensures in
-    let before = opened_before path c.in_ok-folder.folder opened c.remove_left_over.ensures in
+    let swept = rw c.folder_of-folder_path.ensures at c.remove_left_over.ensures in
+    let before = opened_before path c.in_ok-folder.folder opened swept in
     let drawn = Did-more (IsBefore path) before (Did-one (IsBefore path)
     {e = Random c.random.new.bytes (is_ok c.random.result)} c.random.ensures tt) in
     Did-exits (IsNotMade path) c.from_residual-in_err-new_path.result
@@ -47,7 +49,8 @@ returns-in_err-file-clause-refused g c =
     let path = c.args.path.now in
     let folder = granted_is c.open_folder.result c.in_ok-folder.folder c.in_ok-folder.ensures in
     let opened = rw (folder, c.folder_of-folder_path.ensures) at c.open_folder.ensures in
-    let before = opened_before path c.in_ok-folder.folder opened c.remove_left_over.ensures in
+    let swept = rw c.folder_of-folder_path.ensures at c.remove_left_over.ensures in
+    let before = opened_before path c.in_ok-folder.folder opened swept in
     let drawn = Did-more (IsBefore path) before (Did-one (IsBefore path)
     {e = Random c.random.new.bytes (is_ok c.random.result)} c.random.ensures tt) in
     Did-exits (IsNotMade path) c.from_residual-in_err-file.result
@@ -66,5 +69,6 @@ returns-clause-ok g c =
     is_made path c.in_ok-folder.folder _ c.in_ok-file.file c.random.new.bytes len
     c.in_ok-new_path.ensures.ok
     (rw (folder, c.folder_of-folder_path.ensures) at c.open_folder.ensures)
-    c.remove_left_over.ensures (rw random at c.random.ensures)
+    (rw c.folder_of-folder_path.ensures at c.remove_left_over.ensures)
+    (rw random at c.random.ensures)
     (rw (file, c.as_str.ensures.value) at c.create.ensures)

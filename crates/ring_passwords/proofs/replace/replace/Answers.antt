@@ -2,7 +2,7 @@
 use Rattle.std.proofs.Common.{false, true}
 use Rattle.std.proofs.lemmas.Result.{on_ok_weaker}
 use Rattle.ring_passwords.specs.Replace.{IsNotReplaced}
-use Rattle.ring_passwords.proofs.Events.{Did-exits, if_err_weaker}
+use Rattle.ring_passwords.proofs.Events.{Did-exits, Did-if-err}
 use Rattle.ring_passwords.proofs.Replaced.{is_replaced, is_undone, not_replaced, not_synced}
 use Rattle.ring_passwords.proofs.replace.replace.Goals as goal
 
@@ -26,7 +26,7 @@ pub returns-in-Ok-clause-refused : goal.returns-in-Ok-clause-refused
 returns-in-Ok-clause-refused g c =
     let new = c.in_ok-new.new in
     let put = rw c.as_str.ensures.value at c.in-Ok.ensures.ok in
-    if_err_weaker c.sync_folder.result
+    Did-if-err (IsNotReplaced c.args.path.now c.args.text.now) c.sync_folder.result
     (λ failed h. not_synced c.args.path.now c.args.text.now failed h.0
     (is_replaced c.args.path.now c.args.text.now new.folder _ new.file false
     c.in_ok-new.ensures.ok put h.1))

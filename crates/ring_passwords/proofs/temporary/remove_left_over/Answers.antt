@@ -1,29 +1,15 @@
 -- SPDX-License-Identifier: ISC
-use Rattle.std.proofs.Common.{List, [], inl, inr, subst, sym}
-use Rattle.std.proofs.lemmas.List.Elements.{All-cons, All-nil}
-use Rattle.std.specs.Prelude.{ℕ, All}
-use Rattle.ring_passwords.specs.Event.{Event}
-use Rattle.ring_passwords.specs.Replace.{AreRemovals, IsLookedAt, IsRemoval}
-use Rattle.ring_passwords.proofs.Events.{Did-map, Did-more, Did-still}
+use Rattle.ring_passwords.proofs.Replaced.{swept_to_the_last, visit, visited}
 use Rattle.ring_passwords.proofs.temporary.remove_left_over.Goals as goal
-use Rattle.ring_passwords.proofs.temporary.remove_left_over.Goals.{in-Some-Ok, in-Some-Err}
 
-removals_of : {F : Type 0} (path name : List ℕ) (events : List (Event F))
-    → IsLookedAt path name events → AreRemovals path events
-removals_of path name events (inl (left, done, is)) =
-    subst (All (IsRemoval path)) (sym is)
-    (All-cons (IsRemoval path) _ [] left (All-nil (IsRemoval path)))
-removals_of path name events (inr (other, is)) =
-    subst (All (IsRemoval path)) (sym is) (All-nil (IsRemoval path))
+pub returns-in_default-next_name : goal.returns-in_default-next_name
+returns-in_default-next_name g c =
+    swept_to_the_last c.args.path.now c.args.folder.now c.names._read c.names.invariant
+    c.in_default-next_name.ensures
 
-pub loop-preserved : goal.loop-preserved
-loop-preserved g c =
+pub names-preserved : goal.names-preserved
+names-preserved g c =
     let path = c.args.path.now in
-    let so_far = Did-still (AreRemovals path) c.loop.invariant c.next_name.ensures in
-    elim c.match-next_name-2.branch [
-      | in-Some-Ok w ↦
-          rw w.steps-is (Did-more (IsRemoval path) so_far
-          (Did-map (IsLookedAt path _) (AreRemovals path) (removals_of path _)
-          w.remove_if_left_over.ensures))
-      | in-Some-Err w ↦ rw w.steps-is so_far
-    ]
+    visited path c.args.folder.now c.names._read {c = g.S.Steps.events c.look_at.new.steps}
+    c.names.invariant
+    (visit path _ {c = g.S.Steps.events c.look_at.new.steps} c.in-Some.ensures c.look_at.ensures)

@@ -124,7 +124,7 @@ module _ {S R W : Type 0} {remaining : S → Option (List ℕ)} {fails_with : S 
       }
 
   -- no line is checked
-  checked-none : {counts : Counts} {console : Console R W} → AreCounted [] counts
+  pub checked-none : {counts : Counts} {console : Console R W} → AreCounted [] counts
       → counts.bad_lines ≡ 0
       → IsChecked remaining fails_with contents options [] [] counts console console
   checked-none counted bad =
@@ -338,7 +338,7 @@ module _ {S R W : Type 0} {remaining : S → Option (List ℕ)} {fails_with : S 
                   ∙ paired-both (λ (file : Wanted S). name file.reader)
                   (λ (entry : Entry). Some entry.name.items) so.done (t.done ++ t.rest) so.lines
                   (t.lines ++ t.others) so.names t.names
-                  ∙ ap (λ (z : List Line). map (λ (entry : Entry). Some entry.name.items) (entries_of z))
+                  ∙ ap (λ (z : List Line). map (λ entry. Some entry.name.items) (entries_of z))
                   (sym lines);
               is = both-are;
               all = t.all;
@@ -398,7 +398,7 @@ module _ {S R W : Type 0} {remaining : S → Option (List ℕ)} {fails_with : S 
             names = paired-both (λ (file : Wanted S). name file.reader)
                 (λ (entry : Entry). Some entry.name.items) so.done t.done so.lines t.lines so.names
                 (ap (map (λ (file : Wanted S). name file.reader)) (sym files) ∙ t.names
-                ∙ ap (λ (z : List Line). map (λ (entry : Entry). Some entry.name.items) (entries_of z))
+                ∙ ap (λ (z : List Line). map (λ entry. Some entry.name.items) (entries_of z))
                 lines);
             is = both-are;
           }

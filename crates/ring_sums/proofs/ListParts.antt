@@ -1,10 +1,9 @@
 -- SPDX-License-Identifier: ISC
 -- A list in parts.
-use Rattle.std.proofs.Common.{◌≡◌, ℕ, List, [], ◌∷◌, ◌++◌, ◌∙◌, Option, None, Some, ap, append-nil}
+use Rattle.std.proofs.Common.{◌≡◌, ℕ, List, [], ◌∷◌, ◌++◌, ◌∙◌, Option, None, Some, ap}
 use Rattle.std.proofs.Common.{append_assoc, inl, inr, refl, sym}
 use Rattle.std.proofs.KnownBytes.{Consumes-trans}
-use Rattle.std.proofs.lemmas.Bool.{cases_Bool, true≢false}
-use Rattle.std.specs.Prelude.{IsNone, IsTrue}
+use Rattle.std.proofs.lemmas.Bool.{cases_Bool}
 use Rattle.std.specs.Io.KnownBytes.{Consumes, IsAtEnd, Keeps, prepend_known}
 use Rattle.ring_sums.specs.Parts.{IsPart, left_of}
 use Rattle.ring_sums.specs.declared.parts.Part.{Part}

@@ -16,9 +16,7 @@ use Rattle.std.specs.List.{list_all, position}
 use Rattle.std.specs.Option.{option_or}
 use Rattle.ring.specs.Prelude.{output_len}
 use Rattle.ring.specs.declared.digest.algorithm.Algorithm.{Algorithm}
-use Rattle.ring.specs.declared.digest.algorithm.AlgorithmId.{AlgorithmId}
-use Rattle.ring.specs.declared.digest.algorithm.AlgorithmId.TheVariants.{Sha1, Sha256, Sha384}
-use Rattle.ring.specs.declared.digest.algorithm.AlgorithmId.TheVariants.{Sha512, Sha512_256}
+use Rattle.ring.proofs.Rows.{output_len-positive}
 use Rattle.ring_text.proofs.Cuts.{run_same}
 use Rattle.ring_sums.specs.Entry.{HasPlainForm, algorithm_of_count, is_white}
 use Rattle.ring_sums.proofs.Fronts.{digits_end_at, white-no_digit}
@@ -94,15 +92,7 @@ plain-same {asked} {line} {a} {b} {d} {e} {r} {s} one two =
     ∙ ap (λ z. option_or asked (algorithm_of_count (length z))) run.0 ∙ two.algorithm) in
     (same, run.0, run.2)
 
--- a digest has a byte or more
-pub enough : (id : AlgorithmId) → 0 < output_len (record { id = id })
-enough Sha1 = omega arith
-enough Sha256 = omega arith
-enough Sha384 = omega arith
-enough Sha512 = omega arith
-enough Sha512_256 = omega arith
-
--- it begins with a digit
+-- a digest has a byte or more, and so begins with a digit
 first-digit : (digits rest : List ℕ) → 0 < length digits
     → list_all is_ascii_hexdigit digits ≡ true
     → is_ascii_hexdigit (get_or (digits ++ rest) 0 0) ≡ true
@@ -113,7 +103,7 @@ first-digit (digit ∷ digits) rest more all =
 pub plain-first : {asked : Option Algorithm} {line : List ℕ} {a : Algorithm} {d r : List ℕ}
     → HasPlainForm asked line a d r → is_ascii_hexdigit (get_or line 0 0) ≡ true
 plain-first {asked} {line} {a} {d} {r} form =
-    let some = enough a.id in
+    let some = output_len-positive a in
     let count = form.count in
     let more : 0 < length d = omega arith in
     subst (λ l. is_ascii_hexdigit (get_or l 0 0) ≡ true) (sym form.whole)

@@ -48,6 +48,27 @@ none-first [] None none is = refl
 none-first [] (Some x) none is = absurd (cc is)
 none-first (f ∷ found) outcome none is = absurd (omega (arith, none))
 
+-- what is found and the lanes change, and nothing else
+pub to-come : {R : Type 0} {remaining : R → Option (List ℕ)} {fails_with : R → Error → Bool}
+    {a : Algorithm} {readers : List R} {old : Sums R} (found : VecDeque (Option Outcome) Global)
+    (lanes : Lanes R) (first : ReadersToCome remaining fails_with a readers old)
+    → length found.items ≡ length old.found.items
+    → AreIn remaining fails_with a (first.given ++ readers) left_of lanes.lanes.items
+    lanes.contexts.items
+    → AreFound remaining fails_with a (first.given ++ readers) (length first.given) found.items
+    lanes.lanes.items
+    → ReadersToCome remaining fails_with a readers (record old { found = found; lanes = lanes })
+to-come found lanes first count reading are = record {
+  given = first.given;
+  begun = first.begun;
+  whole = first.whole;
+  algorithm = first.algorithm;
+  total = first.total;
+  count = count ∙ first.count;
+  reading = reading;
+  found = are;
+}
+
 -- the first outcome is taken out, and nothing else changes
 pub given-next : {R : Type 0} {remaining : R → Option (List ℕ)} {fails_with : R → Error → Bool}
     {a : Algorithm} {old : Sums R} (found : VecDeque (Option Outcome) Global)
@@ -64,16 +85,8 @@ given-next {old = old} found outcome [] shifted is ready first =
     record {
       is = (
         none-first old.found.items outcome empty is,
-        record {
-          given = first.given;
-          begun = first.begun;
-          whole = first.whole;
-          algorithm = first.algorithm;
-          total = first.total;
-          count = omega (arith, over, none);
-          reading = first.reading;
-          found = record { each = λ k r o below. absurd (omega (arith, below, over)) };
-        },
+        to-come found old.lanes first (over ∙ sym empty) first.reading
+            (record { each = λ k r o below. absurd (omega (arith, below, over)) }),
       );
     }
 given-next {remaining = remaining} {fails_with} {a} {old} found outcome (r ∷ rest) shifted is ready
@@ -122,14 +135,6 @@ pub lanes-kept : {R : Type 0} {remaining : R → Option (List ℕ)} {fails_with 
     → GoOn remaining fails_with left_of left_of old.lanes lanes
     → ReadersToCome remaining fails_with a readers old
     → ReadersToCome remaining fails_with a readers (record old { lanes = lanes })
-lanes-kept {a = a} {readers} places going first =
-    record {
-      given = first.given;
-      begun = first.begun;
-      whole = first.whole;
-      algorithm = first.algorithm;
-      total = first.total;
-      count = first.count;
-      reading = going a (first.given ++ readers) first.reading;
-      found = found-kept first.found places;
-    }
+lanes-kept {a = a} {readers} {old} {lanes} places going first =
+    to-come old.found lanes first refl (going a (first.given ++ readers) first.reading)
+    (found-kept first.found places)

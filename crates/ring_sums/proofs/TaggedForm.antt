@@ -1,17 +1,22 @@
 -- SPDX-License-Identifier: ISC
 -- The form of lines with a tag.
-use Rattle.std.proofs.Common.{◌≡◌, ℕ, eqb, if◌then◌else◌, List, [], ◌∷◌, ◌++◌, Option}
-use Rattle.std.proofs.Common.{None, arith, get_or, refl, sym, ap, subst, ◌∙◌, inl, inr, drop}
-use Rattle.std.proofs.lemmas.Bool.{cases_Bool, eqb-true, true≢false}
+use Rattle.std.proofs.Common.{◌≡◌, ◌-◌, ℕ, Bool, eqb, List, [], ◌∷◌, ◌++◌, Option}
+use Rattle.std.proofs.Common.{None, Some, ◌||◌, arith, get_or, inl, inr, not, refl, sym, ap}
+use Rattle.std.proofs.Common.{subst, true, ◌∙◌, drop}
+use Rattle.std.proofs.lemmas.Bool.{cases_Bool, false≢true, true≢false}
 use Rattle.std.proofs.lemmas.List.{append_cancel_left}
+use Rattle.std.proofs.lemmas.List.Sums.{AllPass-from_list_all}
+use Rattle.std.proofs.lemmas.Option.{same_Some}
 use Rattle.std.specs.Char.{is_ascii_hexdigit}
-use Rattle.std.specs.List.{Contains}
+use Rattle.std.specs.List.{Contains, find, list_all}
+use Rattle.std.specs.Str.{bytes_eq}
+use Rattle.ring.specs.Prelude.{algorithms, row_of}
 use Rattle.ring.specs.declared.digest.algorithm.Algorithm.{Algorithm}
 use Rattle.ring.specs.declared.digest.algorithm.AlgorithmId.{AlgorithmId}
-use Rattle.ring.specs.declared.digest.algorithm.AlgorithmId.TheVariants.{Sha1, Sha256, Sha384}
-use Rattle.ring.specs.declared.digest.algorithm.AlgorithmId.TheVariants.{Sha512, Sha512_256}
+use Rattle.ring.specs.declared.digest.algorithm.AlgorithmId.TheVariants.{Sha1}
+use Rattle.ring_text.proofs.Cuts.{run_same}
 use Rattle.ring_sums.specs.Entry.{HasPlainForm, HasTaggedForm, IsLastCut, algorithms_read}
-use Rattle.ring_sums.specs.Entry.{behind_space, behind_white, tag_of, tag_of_id}
+use Rattle.ring_sums.specs.Entry.{behind_space, behind_white, tag_of}
 use Rattle.ring_sums.proofs.Fronts.{last_cut_same}
 use Rattle.ring_sums.proofs.PlainForm.{plain-first}
 
@@ -45,45 +50,68 @@ tagged-same one two =
 
 -- ---- tags
 
--- the algorithm whose tag has these bytes
-abbrev id_at : List ℕ → AlgorithmId
-id_at line =
-    if eqb (get_or line 3 0) 49 then Sha1
-    else if eqb (get_or line 3 0) 50 then Sha256
-    else if eqb (get_or line 3 0) 51 then Sha384
-    else if eqb (get_or line 6 0) 47 then Sha512_256
-    else Sha512
+-- a space or an opening parenthesis is behind a tag, and in none
+abbrev ends_tag : ℕ → Bool
+ends_tag byte = eqb byte 32 || eqb byte 40
 
-id_at-tag : (id : AlgorithmId) (opened inner : List ℕ) → behind_space opened ≡ 40 ∷ inner
-    → id_at (tag_of_id id ++ opened) ≡ id
-id_at-tag Sha1 opened inner opens = refl
-id_at-tag Sha256 opened inner opens = refl
-id_at-tag Sha384 opened inner opens = refl
-id_at-tag Sha512 [] inner opens = refl
-id_at-tag Sha512 (byte ∷ rest) inner opens = elim (cases_Bool (eqb byte 47)) [
-  | inl is ↦ absurd (true≢false (ap (λ l. eqb (get_or l 0 0) 47)
-      (rw (eqb-true byte 47 is) at opens)))
-  | inr other ↦ rw other
-]
-id_at-tag Sha512_256 opened inner opens = refl
+abbrev IsOfTag : ℕ → Type 0
+IsOfTag byte = not (ends_tag byte) ≡ true
 
-abbrev with_id : AlgorithmId → Algorithm
-with_id id = record { id = id }
+tag-bytes : (id : AlgorithmId)
+    → list_all (λ byte. not (ends_tag byte)) (tag_of (record { id = id })) ≡ true
+tag-bytes Sha1 = refl
+tag-bytes other = refl
+
+-- the byte behind a tag, and the rest
+record IsOpened (opened : List ℕ) : Type 0 where
+  first : ℕ
+  rest : List ℕ
+  whole : opened ≡ first ∷ rest
+  ends : IsOfTag first → ⊥
+
+opened-ends : (opened : List ℕ) {inner : List ℕ} → behind_space opened ≡ 40 ∷ inner
+    → IsOpened opened
+opened-ends [] opens = absurd (cc)
+opened-ends (byte ∷ rest) opens = record {
+  first = byte;
+  rest = rest;
+  whole = refl;
+  ends = λ inside. elim (cases_Bool (eqb byte 32)) [
+    | inl is ↦ false≢true (rw is at inside)
+    | inr other ↦
+        let here : byte ≡ 40 = ap (λ l. get_or l 0 0) (rw other at opens) in
+        false≢true (rw here at inside)
+  ];
+}
+
+-- the algorithm of a tag
+algorithm_of_tag : List ℕ → Option Algorithm
+algorithm_of_tag tag = find (λ a. bytes_eq tag (tag_of a)) algorithms
+
+tag-known : (id : AlgorithmId)
+    → algorithm_of_tag (tag_of (record { id = id })) ≡ Some (record { id = id })
+unfolding algorithm_of_tag
+tag-known Sha1 = refl
+tag-known other = refl
 
 -- a line has one tag
 pub tag-same : {line : List ℕ} (a b : Algorithm) {n m d e : List ℕ}
     → HasTaggedForm line (tag_of a) n d → HasTaggedForm line (tag_of b) m e → a ≡ b
 tag-same a b one two =
-    let id = sym (id_at-tag a.id one.opened _ one.opens)
-    ∙ ap id_at (sym one.begins ∙ two.begins) ∙ id_at-tag b.id two.opened _ two.opens in
-    ap with_id id
+    let x = opened-ends one.opened one.opens in
+    let y = opened-ends two.opened two.opens in
+    let lines : tag_of a ++ x.first ∷ x.rest ≡ tag_of b ++ y.first ∷ y.rest =
+    ap (λ (z : List ℕ). tag_of a ++ z) (sym x.whole) ∙ sym one.begins ∙ two.begins
+    ∙ ap (λ (z : List ℕ). tag_of b ++ z) y.whole in
+    let run = run_same IsOfTag {x = x.first} {y = y.first} x.ends y.ends (tag_of a) (tag_of b)
+    (AllPass-from_list_all (λ byte. not (ends_tag byte)) (tag_of a) (tag-bytes a.id))
+    (AllPass-from_list_all (λ byte. not (ends_tag byte)) (tag_of b) (tag-bytes b.id)) lines in
+    same_Some a b (sym (tag-known a.id) ∙ ap algorithm_of_tag run.0 ∙ tag-known b.id)
 
-tag-first : (id : AlgorithmId) (opened : List ℕ) → get_or (tag_of_id id ++ opened) 0 0 ≡ 83
+tag-first : (id : AlgorithmId) (opened : List ℕ)
+    → get_or (tag_of (record { id = id }) ++ opened) 0 0 ≡ 83
 tag-first Sha1 opened = refl
-tag-first Sha256 opened = refl
-tag-first Sha384 opened = refl
-tag-first Sha512 opened = refl
-tag-first Sha512_256 opened = refl
+tag-first other opened = refl
 
 pub tagged-first : {line : List ℕ} (a : Algorithm) {n d : List ℕ}
     → HasTaggedForm line (tag_of a) n d → get_or line 0 0 ≡ 83
@@ -98,10 +126,7 @@ forms-apart a one two =
 
 -- ---- algorithms
 
--- each is one of all
+-- each is one of all, at the place that its number tells
 pub among-all : (id : AlgorithmId) → Contains (algorithms_read None) (record { id = id })
 among-all Sha1 = (0, omega arith, refl)
-among-all Sha256 = (1, omega arith, refl)
-among-all Sha384 = (2, omega arith, refl)
-among-all Sha512 = (3, omega arith, refl)
-among-all Sha512_256 = (4, omega arith, refl)
+among-all other = ((row_of other).number - 1, omega arith, refl)

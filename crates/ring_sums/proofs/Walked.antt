@@ -118,7 +118,7 @@ pub record IsStill {S : Type 0} (old new : Walk S) : Type 0 where
   pub waiting : waiting_of new ≡ waiting_of old
   pub whole : new.is_whole ≡ old.is_whole
 
-and_assoc : (x y z : Bool) → ((x && y) && z) ≡ (x && (y && z))
+pub and_assoc : (x y z : Bool) → ((x && y) && z) ≡ (x && (y && z))
 and_assoc true y z = refl
 and_assoc false y z = refl
 
@@ -413,7 +413,7 @@ module _ {S : Type 0} {log : S → Option (List Event)} where
 
 -- ---- a directory and those below it
 
-names_same : {S : Type 0} (new old : Walk S) → new.names ≡ old.names
+pub names_same : {S : Type 0} (new old : Walk S) → new.names ≡ old.names
     → names_of new ≡ names_of old
 names_same new old is = rw is refl
 

@@ -17,12 +17,11 @@ use Rattle.ring_text.proofs.LowerHex.{IsWithout-hex}
 use Rattle.ring.specs.Prelude.{output_len}
 use Rattle.ring.specs.declared.digest.algorithm.Algorithm.{Algorithm}
 use Rattle.ring.specs.declared.digest.algorithm.AlgorithmId.{AlgorithmId}
-use Rattle.ring.specs.declared.digest.algorithm.AlgorithmId.TheVariants.{Sha1, Sha256, Sha384}
-use Rattle.ring.specs.declared.digest.algorithm.AlgorithmId.TheVariants.{Sha512, Sha512_256}
+use Rattle.ring.specs.declared.digest.algorithm.AlgorithmId.TheVariants.{Sha1, Sha512_256}
 use Rattle.ring.specs.declared.digest.algorithm.TheConstants.{SHA512_256}
 use Rattle.ring_sums.specs.Entry.{HasPlainForm, HasTaggedForm, IsDigestOf, IsShape, Listed}
 use Rattle.ring_sums.specs.Entry.{ReadsAs, Shape, algorithm_of_count, algorithms_read, gap_after}
-use Rattle.ring_sums.specs.Entry.{gap_shown, is_marked, listed_in, named_by, tag_of, tag_of_id}
+use Rattle.ring_sums.specs.Entry.{gap_shown, is_marked, listed_in, named_by, tag_of}
 use Rattle.ring_sums.specs.Entry.{with_digits, with_tag}
 use Rattle.ring_sums.specs.Line.{mark_of}
 use Rattle.ring_sums.specs.List.{line_of}
@@ -65,12 +64,9 @@ clean-escaped [] = refl
 clean-escaped (byte ∷ name) =
     clean-append (escaped_byte byte) (escaped name) (clean-byte byte) (clean-escaped name)
 
-clean-tag : (id : AlgorithmId) → is_clean (tag_of_id id) ≡ true
+clean-tag : (id : AlgorithmId) → is_clean (tag_of (record { id = id })) ≡ true
 clean-tag Sha1 = refl
-clean-tag Sha256 = refl
-clean-tag Sha384 = refl
-clean-tag Sha512 = refl
-clean-tag Sha512_256 = refl
+clean-tag other = refl
 
 -- ---- marks
 
@@ -101,11 +97,8 @@ behind_mark Two free is_binary name h = rw (marked is_binary name h) (refl, refl
 
 count_of : (id : AlgorithmId) → (record { id = id } ≡ SHA512_256 → ⊥)
     → algorithm_of_count (2 * output_len (record { id = id })) ≡ Some (record { id = id })
-count_of Sha1 h = refl
-count_of Sha256 h = refl
-count_of Sha384 h = refl
-count_of Sha512 h = refl
 count_of Sha512_256 h = absurd (h refl)
+count_of other h = refl
 
 -- a line between its backslash and its line feed
 abbrev pub text_of : (is_tagged : Bool) → (is_binary : Option Bool) → Listed → List ℕ

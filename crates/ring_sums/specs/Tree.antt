@@ -10,7 +10,7 @@ use Rattle.std.specs.Str.{IsUtf8, bytes_eq}
 use Rattle.std.specs.declared.io.Error.{Error}
 use Rattle.std.specs.declared.io.ErrorKind.TheVariants.{Interrupted}
 use Rattle.std.specs.IoError.{error_kind}
-use Rattle.ring_sums.specs.Event.{Event, Look, Open, Read, Tell, TellError, Does}
+use Rattle.ring_sums.specs.Event.{Event, Output, Operand, Look, Open, Read, Tell, TellError, Does}
 use Rattle.ring_sums.specs.declared.steps.Fault.TheVariants as fault
 use Rattle.ring_sums.specs.declared.steps.Found.{Found}
 use Rattle.ring_sums.specs.declared.steps.Identity.{Identity}
@@ -135,6 +135,46 @@ pub record IsTreeFound (output : Option Identity) (directory : List ℕ) (events
   pub files : IsPermutation (flat_map (files_in output) events) names
   pub sorted : IsSorted (slice_cmp nat_cmp) names
 
+-- nothing happens, and the name is listed
+abbrev pub IsNamed : (name : List ℕ) → List Event → List (List ℕ) → Type 0
+IsNamed name events names = (events ≡ []) × (names ≡ name ∷ [])
+
+-- an operand that is a directory is walked, and any other is listed, unless it is the output
+abbrev pub IsOfKind : (output : Option Identity) → (operand : List ℕ) → Kind → Identity
+    → List Event → List (List ℕ) → Type 0
+IsOfKind output operand kind.Directory file events names = IsTreeFound output operand events names
+IsOfKind output operand _ file events names =
+    (events ≡ []) × (names ≡ (if is_output output file then [] else operand ∷ []))
+
+-- one that cannot be looked at is listed: its reader tells why
+abbrev pub IsBehindLook : (output : Option Identity) → (operand : List ℕ) → Result Found Error
+    → List Event → List (List ℕ) → Type 0
+IsBehindLook output operand (Ok found) events names =
+    IsOfKind output operand found.kind found.identity events names
+IsBehindLook output operand (Err error) events names = IsNamed operand events names
+
+-- an operand is looked at
+abbrev pub IsLookedAt : (output : Option Identity) → (operand : List ℕ) → List Event
+    → List (List ℕ) → Type 0
+IsLookedAt output operand events names =
+    (found : Result Found Error) × (rest : List Event)
+    × IsBehindLook output operand found rest names × (events ≡ Operand operand found ∷ rest)
+
+-- one that is no path is listed, too
+abbrev pub IsOperandFound : (output : Option Identity) → (operand : List ℕ) → List Event
+    → List (List ℕ) → Type 0
+IsOperandFound output operand events names =
+    (IsUtf8 operand × IsLookedAt output operand events names)
+    ⊎ ((¬ IsUtf8 operand) × IsNamed operand events names)
+
+-- the names of each operand, in the operands' order
+pub record AreOperandsFound (output : Option Identity) (operands : List (List ℕ))
+    (events : List Event) (names : List (List ℕ)) : Type 0 where
+  pub found : List (List ℕ × List (List ℕ))
+  pub each : map (λ one. one.0) found ≡ operands
+  pub are : InTurn (λ one part. IsOperandFound output one.0 part one.1) found events
+  pub listed : names ≡ flat_map (λ one. one.1) found
+
 -- the output is standard output, if it is a regular file
 abbrev pub output_of_kind : Kind → Identity → Option Identity
 output_of_kind kind.File file = Some file
@@ -143,6 +183,16 @@ output_of_kind _ file = None
 abbrev pub output_of : Result Found Error → Option Identity
 output_of (Ok found) = output_of_kind found.kind found.identity
 output_of (Err error) = None
+
+-- standard output is looked at, and then each operand. All is whole unless an error is told, or a
+-- name that is not UTF-8
+pub record IsFound (operands : List (List ℕ)) (events : List Event) (names : List (List ℕ))
+    (is_whole : Bool) : Type 0 where
+  pub output : Result Found Error
+  pub rest : List Event
+  pub are : AreOperandsFound (output_of output) operands rest names
+  pub first : events ≡ Output output ∷ rest
+  pub whole : is_whole ≡ list_all is_fine events
 
 -- the bytes of paths
 abbrev pub names_of : {S : Type 0} → Walk S → List (List ℕ)

@@ -15,7 +15,7 @@ ghost use Rattle.ring_sums.specs.Entry.{named_by, tag_of, with_digits};
 use crate::names::unescaped;
 use crate::outcome::Outcome;
 use memchr::memrchr;
-use ring::digest::{Algorithm, SHA1_FOR_LEGACY_USE_ONLY, SHA256, SHA384, SHA512, SHA512_256};
+use ring::digest::{ALGORITHMS, Algorithm, SHA1_FOR_LEGACY_USE_ONLY, SHA256, SHA384, SHA512};
 use ring_text::after;
 use std::alloc::{AllocError, Global};
 
@@ -166,17 +166,14 @@ fn digit_count(line: &[u8]) -> Option<usize>
     line.iter().position(|byte| !byte.is_ascii_hexdigit())
 }
 
-/// The algorithm of so many digits.
+/// The first algorithm of so many digits.
 fn algorithm_of_count(count: usize) -> Option<Algorithm>
     ensures { result ≡ algorithm_of_count count }
 {
-    match count {
-        40 => Some(SHA1_FOR_LEGACY_USE_ONLY),
-        64 => Some(SHA256),
-        96 => Some(SHA384),
-        128 => Some(SHA512),
-        _ => None,
-    }
+    ALGORITHMS
+        .iter()
+        .copied()
+        .find(|algorithm| 2 * algorithm.output_len() == count)
 }
 
 /// How many characters stand between digits and names. The first line with digits in front shows
@@ -312,10 +309,7 @@ fn tagged(asked: Option<Algorithm>, line: &[u8]) -> Option<(Algorithm, &[u8], &[
 {
     match asked {
         Some(algorithm) => tagged_among(&[algorithm], line),
-        None => tagged_among(
-            &[SHA1_FOR_LEGACY_USE_ONLY, SHA256, SHA384, SHA512, SHA512_256],
-            line,
-        ),
+        None => tagged_among(&ALGORITHMS, line),
     }
 }
 

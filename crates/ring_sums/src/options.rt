@@ -1,7 +1,8 @@
 // SPDX-License-Identifier: ISC
 //! What the arguments ask for.
 
-use ring::digest::{Algorithm, SHA1_FOR_LEGACY_USE_ONLY, SHA256, SHA384, SHA512, SHA512_256};
+use crate::entry::tag_of;
+use ring::digest::{ALGORITHMS, Algorithm};
 use std::alloc::{AllocError, Global};
 
 /// What a check writes. The last of `--status`, `--quiet` and `--warn` holds.
@@ -109,16 +110,33 @@ pub(crate) enum Request<'a> {
     Refused(Misuse, &'a [u8]),
 }
 
+/// A byte of a tag, as `--algorithm` takes it.
+fn name_byte(byte: u8) -> u8 {
+    match byte {
+        b'/' => b'-',
+        _ => byte.to_ascii_lowercase(),
+    }
+}
+
+/// The name of an algorithm as `--algorithm` takes it: `sha512-256` where the tag is `SHA512/256`.
+pub(crate) fn option_name(alloc: Global, algorithm: &Algorithm) -> Result<Vec<u8>, AllocError> {
+    let tag = tag_of(algorithm).as_bytes();
+    tag.iter().map(|byte| name_byte(*byte)).collect(alloc)
+}
+
+/// Whether an algorithm has this name.
+fn is_named(algorithm: &Algorithm, name: &[u8]) -> bool {
+    let tag = tag_of(algorithm).as_bytes();
+    let mut bytes = tag.iter().zip(name);
+    tag.len() == name.len() && bytes.all(|(of_tag, byte)| name_byte(*of_tag) == *byte)
+}
+
 /// The algorithm with a name as `--algorithm` takes it.
 fn algorithm_of(name: &[u8]) -> Option<Algorithm> {
-    match name {
-        b"sha1" => Some(SHA1_FOR_LEGACY_USE_ONLY),
-        b"sha256" => Some(SHA256),
-        b"sha384" => Some(SHA384),
-        b"sha512" => Some(SHA512),
-        b"sha512-256" => Some(SHA512_256),
-        _ => None,
-    }
+    ALGORITHMS
+        .iter()
+        .copied()
+        .find(|algorithm| is_named(algorithm, name))
 }
 
 /// The algorithm that a program's name has in it, as `sha256sums`, `sha256sum` and paths to these.

@@ -11,12 +11,12 @@ use crate::console::Console;
 use crate::entry::Gap;
 use crate::files::{Source, wanted_of};
 use crate::listing::list;
-use crate::options::{Misuse, Options, Request, names_from, request_of};
+use crate::options::{Misuse, Options, Request, names_from, option_name, request_of};
 use crate::outcomes::{Outcomes, Wanted};
 use crate::progress::Progress;
 use crate::quote::joined;
 use crate::tree::files_of;
-use ring::digest::{Algorithm, SHA256};
+use ring::digest::{ALGORITHMS, Algorithm, SHA256};
 use std::alloc::{AllocError, Global};
 use std::env::FillError;
 use std::io;
@@ -122,14 +122,6 @@ fn refuse<R: Eprint, W: Write>(
     console.show(&joined(alloc, &[b"Try '", console.program(), advice])?)
 }
 
-/// What is behind a value that names no algorithm.
-const ALGORITHMS: &str = "' for '--algorithm'\nValid arguments are:
-  - 'sha1'
-  - 'sha256'
-  - 'sha384'
-  - 'sha512'
-  - 'sha512-256'";
-
 /// What is wrong with the arguments.
 fn refusal_text(alloc: Global, misuse: Misuse, word: &[u8]) -> Result<Vec<u8>, AllocError> {
     let (front, behind) = match misuse {
@@ -139,7 +131,7 @@ fn refusal_text(alloc: Global, misuse: Misuse, word: &[u8]) -> Result<Vec<u8>, A
         Misuse::Invalid => ("invalid option -- '", "'"),
         Misuse::LetterLacks => ("option requires an argument -- '", "'"),
         Misuse::NameLacks => ("option '--", "' requires an argument"),
-        Misuse::NoAlgorithm => ("invalid argument '", ALGORITHMS),
+        Misuse::NoAlgorithm => return no_algorithm_text(alloc, word),
         Misuse::TaggedText => ("", " does not support --text mode"),
         Misuse::InChecks => ("the ", " when verifying checksums"),
         Misuse::OnlyInChecks => {
@@ -150,6 +142,17 @@ fn refusal_text(alloc: Global, misuse: Misuse, word: &[u8]) -> Result<Vec<u8>, A
         }
     };
     joined(alloc, &[front.as_bytes(), word, behind.as_bytes()])
+}
+
+/// That a value names no algorithm, and the names of all.
+fn no_algorithm_text(alloc: Global, word: &[u8]) -> Result<Vec<u8>, AllocError> {
+    let behind: &[u8] = b"' for '--algorithm'\nValid arguments are:";
+    let mut text = joined(alloc, &[b"invalid argument '", word, behind])?;
+    for algorithm in &ALGORITHMS {
+        let name = option_name(alloc, algorithm)?;
+        text.extend_from_slice(&joined(alloc, &[b"\n  - '", &name, b"'"])?)?;
+    }
+    Ok(text)
 }
 
 /// That a word is the front of several long options.

@@ -2,10 +2,12 @@
 //! The files in a directory and below it.
 
 ghost use Rattle.std.specs.IoError.{error_kind};
-ghost use Rattle.std.specs.Prelude.{◌≡◌, ◌↔◌, IfOk, IsTrue, OnOk, string_bytes};
-ghost use Rattle.ring_sums.specs.Tree.{AreNamesTaken, Finds, IsFailed, IsIdle, IsNameTaken, IsRead};
-ghost use Rattle.ring_sums.specs.Tree.{IsReadOn, IsTaken, IsTreeFound, Names, is_entry, is_output};
-ghost use Rattle.ring_sums.specs.Tree.{output_of, with_slash};
+ghost use Rattle.std.specs.Prelude.{◌≡◌, ◌↔◌, IfOk, IsTrue, List, OnOk, map, string_bytes};
+ghost use Rattle.ring_sums.specs.Event.{Did, Event};
+ghost use Rattle.ring_sums.specs.Tree.{AreNamesTaken, AreOperandsFound, Finds, IsFailed, IsFound};
+ghost use Rattle.ring_sums.specs.Tree.{IsIdle, IsNamed, IsLookedAt, IsNameTaken, IsOfKind};
+ghost use Rattle.ring_sums.specs.Tree.{IsOperandFound, IsRead, IsReadOn, IsTaken, IsTreeFound};
+ghost use Rattle.ring_sums.specs.Tree.{Names, is_entry, is_output, names_of, output_of, with_slash};
 
 use crate::console::Console;
 use crate::steps::{Fault, Found, Identity, Kind, Steps};
@@ -205,30 +207,64 @@ impl<S: Steps + Drop> Walk<S> {
         Err(AllocError)
     }
 
-    /// Appends the names of an operand's files: in place of a directory those of the files below
-    /// it.
+    /// Appends a name.
+    fn append_name(&mut self, name: &[u8]) -> Result<(), AllocError>
+        requires { IsIdle self.old }
+        ensures idle { OnOk result (IsIdle self.new) }
+        ensures ok { OnOk result (Names S.events self.old self.new (IsNamed name.now)) }
+    {
+        self.names.push(name.to_vec(self.alloc)?)?;
+        Ok(())
+    }
+
+    /// Appends the names of the files of an operand of which this is found: in place of a directory
+    /// those of the files below it, and not the file that standard output is.
+    fn append_found(&mut self, path: &str, found: Found) -> Result<(), AllocError>
+        requires { IsIdle self.old }
+        ensures idle { OnOk result (IsIdle self.new) }
+        ensures ok { OnOk result (Names S.events self.old self.new
+            (IsOfKind self.old.output path.now found.kind found.identity)) }
+    {
+        match found.kind {
+            Kind::Directory => self.append_tree(path),
+            _ if is_output(self.output, found.identity) => Ok(()),
+            _ => self.append_name(path.as_bytes()),
+        }
+    }
+
+    /// Appends the names of the files of an operand that is a path. One that cannot be looked at is
+    /// left to its reader.
+    fn append_path(&mut self, path: &str) -> Result<(), AllocError>
+        requires { IsIdle self.old }
+        ensures idle { OnOk result (IsIdle self.new) }
+        ensures ok { OnOk result (Names S.events self.old self.new
+            (IsLookedAt self.old.output path.now)) }
+    {
+        match self.steps.look_at_operand(path) {
+            Ok(found) => self.append_found(path, found),
+            Err(_) => self.append_name(path.as_bytes()),
+        }
+    }
+
+    /// Appends the names of an operand's files.
     fn append_operand(&mut self, name: &[u8]) -> Result<(), AllocError>
         requires { IsIdle self.old }
         ensures idle { OnOk result (IsIdle self.new) }
+        ensures ok { OnOk result (Names S.events self.old self.new
+            (IsOperandFound self.old.output name.now)) }
     {
-        if let Ok(path) = std::str::from_utf8(name)
-            && let Ok(found) = self.steps.look_at_operand(path)
-        {
-            if matches!(found.kind, Kind::Directory) {
-                return self.append_tree(path);
-            }
-            if is_output(self.output, found.identity) {
-                return Ok(());
-            }
+        match std::str::from_utf8(name) {
+            Ok(path) => self.append_path(path),
+            Err(_) => self.append_name(name),
         }
-        self.names.push(name.to_vec(self.alloc)?)?;
-        Ok(())
     }
 
     /// Appends the names of the operands' files.
     fn append_operands(&mut self, operands: &[&[u8]]) -> Result<(), AllocError>
         requires { IsIdle self.old }
         ensures idle { OnOk result (IsIdle self.new) }
+        ensures ok { OnOk result (Names S.events self.old self.new
+            (AreOperandsFound self.old.output (map (λ name. name.now) operands.now))) }
     {
         'operands: for name in operands {
             self.append_operand(*name)?;
@@ -252,7 +288,10 @@ pub(crate) fn find<S: Steps + Drop>(
     alloc: Global,
     steps: S,
     operands: &[&[u8]],
-) -> Result<Walk<S>, AllocError> {
+) -> Result<Walk<S>, AllocError>
+    ensures { IfOk result (λ walk. Did (S.events steps) (S.events walk.steps) (λ events.
+        IsFound (map (λ name. name.now) operands.now) events (names_of walk) walk.is_whole)) }
+{
     let mut steps = steps;
     let output = output_of(steps.look_at_output());
     let mut walk = Walk {
@@ -273,7 +312,11 @@ pub(crate) fn files_of<'a, 'b, 'c, R: Files + AllocGlobal + Eprint, W: Write>(
     rt: &'a R,
     operands: &[&[u8]],
     console: &'b mut Console<'c, R, W>,
-) -> Result<(Vec<Vec<u8>>, bool), AllocError> {
+) -> Result<(Vec<Vec<u8>>, bool), AllocError>
+    ensures { IfOk result (λ found. (events : List Event)
+        × IsFound (map (λ name. name.now) operands.now) events (map (λ name. name.items)
+        found.0.items) found.1) }
+{
     let walk = find(rt.alloc(), System { rt, console }, operands)?;
     Ok((walk.names, walk.is_whole))
 }

@@ -4,7 +4,7 @@ use Rattle.std.proofs.Common.{List, length-take, map, refl, subst, sym, take, �
 use Rattle.std.specs.Prelude.{is_none}
 use Rattle.std.proofs.lemmas.Bool.{true≢false}
 use Rattle.std.proofs.lemmas.List.{map_push, take_all}
-use Rattle.std.proofs.lemmas.List.Elements.{All-nil, All-push}
+use Rattle.std.proofs.lemmas.List.Elements.{All-push}
 use Rattle.std.proofs.lemmas.List.Sums.{count_by-le-length, count_by_more_no, count_by_more_yes}
 use Rattle.std.proofs.lemmas.Slice.Zip.{all_zipped_more}
 use Rattle.ring_sums.specs.Check.{AreCounted, Finding, IsChecked, IsFound, entries_of, entry_in}
@@ -14,8 +14,9 @@ use Rattle.ring_sums.specs.declared.list.Line.{Line}
 use Rattle.ring_sums.specs.declared.outcomes.Wanted.{Wanted}
 use Rattle.ring_sums.proofs.CheckedLines.{entries-bad, entries-entry, entries-push, entry-below}
 use Rattle.ring_sums.proofs.CheckedLines.{files-many, findings-few, findings-many}
-use Rattle.ring_sums.proofs.Listed.{apart-kept, apart-next, apart-none, written-kept}
-use Rattle.ring_sums.proofs.Listed.{written-next, written-none}
+use Rattle.ring_sums.proofs.CheckedParts.{checked-none}
+use Rattle.ring_sums.proofs.Listed.{apart-kept, apart-next, written-kept}
+use Rattle.ring_sums.proofs.Listed.{written-next}
 use Rattle.ring_sums.proofs.WantedFiles.{done-all, done-more, done-none}
 use Rattle.ring_sums.proofs.check.check_lines.Goals as goal
 use Rattle.ring_sums.proofs.check.check_lines.Goals.{in-Bad+in_ok-warn_of_line-in-Bad}
@@ -24,23 +25,12 @@ use Rattle.ring_sums.proofs.check.check_lines.Goals.{in-Entry+in-Ok+in-Some+in_o
 pub loop-line-init : goal.loop-line-init
 loop-line-init g c = λ files of to_come.
     let none = c.default-counts.ensures in
-    let P : Finding → Type 0 =
-    λ f. IsFound c.args.options.now f.entry.listed.items f.outcome f.found in
     record {
       done = [];
       rest = files;
       whole = refl;
       to_come = to_come;
-      is = record {
-        findings = [];
-        entries = refl;
-        read = tt;
-        found = All-nil P;
-        said = written-none;
-        stops = apart-none;
-        counted = (none.1.0, none.1.1.1.1, none.1.1.0, none.1.1.1.0);
-        bad = none.0;
-      };
+      is = checked-none (none.1.0, none.1.1.1.1, none.1.1.0, none.1.1.1.0) none.0;
     }
 
 pub returns-then-has_failed : goal.returns-then-has_failed

@@ -1,11 +1,11 @@
 -- SPDX-License-Identifier: ISC
-use Rattle.std.proofs.Common.{◌≡◌, ◌++◌, ◌∙◌, ℕ, List, Option, arith, length}
+use Rattle.std.proofs.Common.{◌≡◌, ◌++◌, ℕ, List, Option, arith, length}
 use Rattle.std.proofs.Common.{subst, sym}
 use Rattle.std.specs.Vec.Iter.{into_iter_items}
 use Rattle.ring_sums.specs.Found.{AreFound}
 use Rattle.ring_sums.specs.declared.lane.Lane.{Lane}
 use Rattle.ring_sums.specs.declared.outcome.Outcome.{Outcome}
-use Rattle.ring_sums.proofs.SumsToCome.{whole-many}
+use Rattle.ring_sums.proofs.SumsToCome.{to-come, whole-many}
 use Rattle.ring_sums.proofs.sums.Sums.end.Goals as goal
 
 pub returns : goal.returns
@@ -31,13 +31,5 @@ returns g c = λ a readers first.
     AreFound g.R.Read.remaining g.R.Source.fails_with a (first.given ++ readers) z in
     let ended = c.in_ok-end.ensures.going a (first.given ++ readers) first.reading
     (subst (λ (z : ℕ). P z old.found.items old.lanes.lanes.items) (sym is) first.found) in
-    record {
-      given = first.given;
-      begun = first.begun;
-      whole = first.whole;
-      algorithm = first.algorithm;
-      total = first.total;
-      count = c.in_ok-end.ensures.count ∙ first.count;
-      reading = ended.0;
-      found = subst (λ (z : ℕ). P z c.end.new.found.items c.end.new.self.lanes.items) is ended.1;
-    }
+    to-come c.end.new.found c.end.new.self first c.in_ok-end.ensures.count ended.0
+    (subst (λ (z : ℕ). P z c.end.new.found.items c.end.new.self.lanes.items) is ended.1)

@@ -26,6 +26,8 @@
      (n) == YZ_SHA256 || \
      (n) == YZ_SHA384 || \
      (n) == YZ_SHA512)
+#define FOR_EACH_KEYED(n) \
+    for (uint32_t n = 1; n <= ALGORITHMS_COUNT; n++) if (IS_KEYED(n))
 
 /* Those of tokens, each with its name there. */
 #define EACH_TOKEN(ROW) \

@@ -44,7 +44,8 @@ TEXTS = {
 MADE_FROM = ["LICENSE", "Makefile", "c", "generated", "javascript", "openssl", "packaging",
              "python", "rust"]
 # What each part may read beside it, and what of all this none does: the texts of the programs.
-TRIED_BY = ["tests", "tools", "vectors", "verify"]
+TRIED_BY = ["tests/c_library.py", "tests/lib", "tests/verifications", "tests/merkle.py",
+            "tests/password_hashes.py", "tests/tokens.py", "tools", "vectors", "verify"]
 NOT_READ = [":!generated/SOURCES", ":!generated/ring_*.S"]
 KIT_OUT = {"x86_64": ROOT / "out/kit", "aarch64": ROOT / "out/aarch64/kit"}
 

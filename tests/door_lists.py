@@ -26,6 +26,7 @@ import lists
 from rows import ALGORITHMS, KEYED, LIMITS, SCHEMES, STATUSES, TOKENS
 
 TABLE = "crates/ring/specs/Table.antt"
+HMAC = "crates/ring/specs/Hmac.antt"
 STATUS = "crates/ring_c/specs/Status.antt"
 NUMBERS = "crates/ring_c/specs/Number.antt"
 HASHES = "crates/ring_c/specs/PasswordHashes.antt"
@@ -82,7 +83,7 @@ PLANTED = (
     (STATUS, "if c.bad_salt then YZ_BAD_SALT", "if c.bad_salt then YZ_BAD_FORMAT"),
     (NUMBERS, "nat_eq number 11 then Some Postgresql", "nat_eq number 11 then Some WerkzeugSha1"),
     (NUMBERS, "nat_eq number 4 then Some Hs512", "nat_eq number 5 then Some Hs512"),
-    (NUMBERS, "nat_eq number 4 then Some sha512", "nat_eq number 5 then Some sha512"),
+    (HMAC, "sha512_256_row.number then None", "sha512_row.number then None"),
     (SCHEME, 'row (codes "mosquitto")', 'row (codes "mosquito")'),
     (SCHEME, '(codes "$7$") false false Base64', '(codes "$7$") false false Hex'),
     (HELP, "postgresql       werkzeug-sha1", "postgresql"),
@@ -96,13 +97,13 @@ PLANTED = (
     (RUST, "calls::YZ_BAD_SALT =>", "8 =>"),
     ("python/src/yezdopin/password_hash.py", "status 3", "status 4"),
     ("javascript/test/traces.mjs", "UNSPECIFIED = 8", "UNSPECIFIED = 5"),
-    (RECIPE, "PBKDF2: at most 101", "PBKDF2: at most 60"),
+    (RECIPE, "PBKDF2: at most 57", "PBKDF2: at most 50"),
 )
 
 
 def texts_of_repository():
     """The files that are compared, each with its text."""
-    names = {TABLE, STATUS, NUMBERS, SCHEME, HELP, PAGE, RECIPE, *lists.paths()}
+    names = {TABLE, HMAC, STATUS, NUMBERS, SCHEME, HELP, PAGE, RECIPE, *lists.paths()}
     names |= {file for file, _, _ in LIMITS_ELSEWHERE}
     for folder, pattern in FOLDERS.items():
         names |= {str(it.relative_to(ROOT)) for it in (ROOT / folder).glob(pattern)}
@@ -125,8 +126,9 @@ def table_faults(texts):
     wanted = [(it.name, it.number, it.block_len // 16, it.output_len, it.chaining_len)
               for it in ALGORITHMS]
     yield different(TABLE, found, [tuple(map(str, it)) for it in wanted])
+    without = re.findall(r"(\w+)_row\.number then None", block(texts[HMAC], "\nhmac_over a ="))
+    yield different(HMAC, without, [it.name.lower() for it in ALGORITHMS if it not in KEYED])
     for head, values in (
-        ("\nnamed sha1", [(it.name.lower(), it.number) for it in KEYED]),
         ("\njws_named number =", [(it.token.capitalize(), it.number) for it in TOKENS]),
         ("\nscheme_named number =",
          [(lists.variant(name), at) for at, (name, _) in enumerate(SCHEMES, 1)]),

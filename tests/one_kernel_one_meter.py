@@ -30,8 +30,8 @@ import rattle_text
 from planted_bodies import (
     AHEAD_ONCE, AS_LISTED, COUNTED_ONCE, FEW_DERIVE, NONE_BELOW, NO_ALIAS, NO_MACRO, NO_OTHER_METER,
     NO_OTHER_NAME, NO_OTHER_PLACE, NO_PLAIN_DERIVATION, NO_SECOND, NO_SIGMA_1, NO_VALUE,
-    NO_NAMED_COUNT, OF_EACH_FAMILY, OF_ONE_FUNCTION, ONCE, ONE_CALL, ONE_DERIVATION, ONE_MAKER,
-    ONE_ROTATION, PLANTED,
+    NO_NAMED_COUNT, OF_BOTH_FORMS, OF_EACH_FAMILY, OF_ONE_FUNCTION, ONCE, ONE_CALL, ONE_DERIVATION,
+    ONE_MAKER, ONE_ROTATION, PLANTED,
 )
 
 # As many files are read again as bodies are planted.
@@ -112,10 +112,12 @@ COUNTS = {
 }
 RUNS = "run_block"
 FAMILIES = 2
-# What a round alone calls or reads: the one of both families, of SHA-1, and of SHA-2.
-OF_BOTH_ROUNDS = ("choose_word", "majority_word")
-OF_SHA_1 = "round_function"
+# What a round alone calls or reads: those of both families, those of SHA-1, and those of both forms
+# of SHA-2's.
+OF_BOTH_ROUNDS = ("choose_word", "plus_choose")
+OF_SHA_1 = ("plus_function", "plus_majority", "round_function")
 OF_SHA_2 = ("BIG_SIGMA_0", "BIG_SIGMA_1")
+FORMS = 2
 # The rotations to the right that a round alone has: SHA-1's of a, to the left by 5; and of Σ1 of
 # each word size the one that it also has with its rotations nested. SHA-2's round takes these from
 # its constants.
@@ -123,8 +125,9 @@ ROTATION_OF_SHA_1 = 27
 ROTATIONS_OF_SIGMA_1 = {6, 14}
 # The functions that rotate or shift by a count that has a name, beside which no rule sees one.
 NAMED_COUNTS = {
-    "rotate_left", "small_sigma", "big_sigma", "small_sigma_of_halves",
-    "rotate", "rotate_four", "rotr", "shift", "shift_right",
+    "rotate_left", "two_rotations", "two_rotations_nested", "small_sigma", "big_sigma_apart",
+    "big_sigma_nested", "small_sigma_of_halves", "rotate", "rotate_four", "rotr", "shift",
+    "shift_right",
 }
 # The constants that a round has, each with what finds it in small letters.
 CONSTANTS = {
@@ -606,11 +609,12 @@ def rules_of_rounds(places, codes):
     for name in OF_BOTH_ROUNDS:
         found = naming(places, rf"\b{name}{GENERIC}\(")
         yield OF_EACH_FAMILY.format(name), len(found) == FAMILIES, found
-    found = naming(places, rf"\b{OF_SHA_1}{GENERIC}\(")
-    yield OF_ONE_FUNCTION.format(OF_SHA_1), len(found) == 1, found
+    for name in OF_SHA_1:
+        found = naming(places, rf"\b{name}{GENERIC}\(")
+        yield OF_ONE_FUNCTION.format(name), len(found) == 1, found
     for name in OF_SHA_2:
         found = naming(places, rf"::{name}\b")
-        yield OF_ONE_FUNCTION.format(name), len(found) == 1, found
+        yield OF_BOTH_FORMS.format(name), len(found) == FORMS, found
     found = [str(it) for it in places if ROTATION_OF_SHA_1 in rotations(it.function)]
     yield ONE_ROTATION, len(found) == 1, found
     found = [str(it) for it in places if ROTATIONS_OF_SIGMA_1 & rotations(it.function)]

@@ -47,11 +47,12 @@ LANGUAGE = {
 LINES = {
     "As in Rust": {
         "Vec Array Wrapping NonZeroU32 NonZeroU64 u8 min max": "the same",
+        "Global": "the allocator of programs",
         "non_zero_u32_get non_zero_u64_get": "`get`",
         "Result Ok Err Option Some None is_ok is_some is_none": "the same",
         "result_ok result_err option_map option_and_then": "`ok`, `err`, `map`, `and_then`",
         "option_or option_copied unwrap_or": "`or`, `copied`, `unwrap_or`",
-        "map filter filter_map flat_map zip": "an iterator's, of a list",
+        "map filter filter_map flat_map zip find": "an iterator's, of a list",
         "sum count_by list_all list_any position": "likewise, `count_by` of those that pass",
         "count_ones is_power_of_two div_ceil from_be_bytes to_be_bytes": "a number's",
         "is_control is_ascii_digit is_ascii_hexdigit is_ascii_uppercase encode_utf8":

@@ -139,6 +139,8 @@ def rows_for_c():
             + macro("EACH_KEYED", rows(KEYED))
             + "#define IS_KEYED(n) \\\n    (" + " || \\\n     ".join(
                 f"(n) == YZ_{it.name}" for it in KEYED) + ")\n"
+            + "#define FOR_EACH_KEYED(n) \\\n"
+            "    for (uint32_t n = 1; n <= ALGORITHMS_COUNT; n++) if (IS_KEYED(n))\n"
             + "\n/* Those of tokens, each with its name there. */\n" + macro("EACH_TOKEN", tokens)
             + "\n#endif\n")
 

@@ -288,7 +288,7 @@ int main(void) {
     equality(&its);
     for (uint32_t n = 1; n <= ALGORITHMS_COUNT; n++)
         digests(&its, n), digests_of_several(&its, n), outputs_are_secret(&its, n);
-    for (uint32_t n = YZ_SHA1; n <= YZ_SHA512; n++)
+    FOR_EACH_KEYED(n)
         tags(&its, n), verified_tags(&its, n), expansions(&its, n), derivations(&its, n),
             finished(&its, n), webhooks(&its, n);
     stripe(&its);

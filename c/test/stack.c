@@ -1,6 +1,7 @@
 /* SPDX-License-Identifier: ISC */
 /* How much stack the calls take: each is run on a stack of its own that was painted before. */
 #define _GNU_SOURCE
+#include "../rows.h"
 #include "yezdopin.h"
 #include <stdio.h>
 #include <string.h>
@@ -181,8 +182,8 @@ static size_t used(void) {
 
 int main(void) {
     static size_t most, most_of_hashes;
-    for (n = YZ_SHA1; n <= YZ_SHA512; n++)
-        for (call = 0; call <= LAST; call++) {
+    FOR_EACH_KEYED(number)
+        for (n = number, call = 0; call <= LAST; call++) {
             size_t now = used();
             bool is_of_hashes = call >= FIRST_OF_HASHES && call <= LAST_OF_HASHES;
             size_t *of = is_of_hashes ? &most_of_hashes : &most;

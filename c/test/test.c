@@ -31,6 +31,7 @@ _Static_assert(offsetof(yz_message, len) == 8, "layout");
 #define MOST_COUNT 65
 
 #define OUTPUT_LEN_OF(name, ...) YZ_##name##_OUTPUT_LEN,
+#define NUMBER_OF(name, ...) YZ_##name,
 #define BLOCK_LEN_OF(name, ...) YZ_##name##_BLOCK_LEN,
 static const size_t OUTPUT[] = {0, EACH_ALGORITHM(OUTPUT_LEN_OF) 0};
 static const size_t BLOCK[] = {0, EACH_ALGORITHM(BLOCK_LEN_OF) 0};
@@ -82,12 +83,13 @@ static void known_values(void) {
 static void statuses(void) {
     yz_digest_context context;
     yz_hmac_key key;
-    const uint32_t numbers[] = {0, 1, 2, 3, 4, 5, 6, 256, 0x80000002u, 0xffffffffu};
+    const uint32_t numbers[] = {0, EACH_ALGORITHM(NUMBER_OF) ALGORITHMS_COUNT + 1, 256,
+                                0x80000002u, 0xffffffffu};
     uint8_t unwritten[70], out[YZ_MAX_OUTPUT_LEN] = {0};
     memset(unwritten, UNWRITTEN, sizeof unwritten);
     for (size_t i = 0; i < sizeof numbers / sizeof *numbers; i++) {
         uint32_t n = numbers[i];
-        bool digests = n >= 1 && n <= 5, tags = n >= 1 && n <= 4;
+        bool digests = n >= 1 && n <= ALGORITHMS_COUNT, tags = IS_KEYED(n);
         yz_status digested = digests ? YZ_OK : YZ_UNKNOWN_ALGORITHM;
         yz_status tagged = tags ? YZ_OK : YZ_UNKNOWN_ALGORITHM;
         yz_status misfit = tags ? YZ_WRONG_LENGTH : YZ_UNKNOWN_ALGORITHM;
@@ -161,12 +163,12 @@ static void refused_several(several *it, uint32_t n, size_t count) {
     IS(yz_digest_each(n, messages, count, out, len + 1), YZ_WRONG_LENGTH);
     IS(yz_digest_each(n, messages, count - 1, out, len), YZ_WRONG_LENGTH);
     IS(yz_digest_each(n, messages, count, NULL, 0), YZ_WRONG_LENGTH);
-    IS(yz_digest_each(n + 5, messages, count, out, len), YZ_UNKNOWN_ALGORITHM);
-    if (n <= YZ_SHA256) {
+    IS(yz_digest_each(n + ALGORITHMS_COUNT, messages, count, out, len), YZ_UNKNOWN_ALGORITHM);
+    if (BLOCK[n] == 64) {
         it->messages[count - 1].len = (size_t)1 << 61;
         IS(yz_digest_each(n, messages, count, out, len), YZ_UNSPECIFIED);
         IS(yz_digest_each(n, messages, count, out, len - 1), YZ_WRONG_LENGTH);
-        IS(yz_digest_each(n + 5, messages, count, out, len), YZ_UNKNOWN_ALGORITHM);
+        IS(yz_digest_each(n + ALGORITHMS_COUNT, messages, count, out, len), YZ_UNKNOWN_ALGORITHM);
     }
     IS_UNWRITTEN(out, sizeof it->digests);
 }
@@ -186,7 +188,7 @@ static void several_messages(void) {
 /* An output of HKDF may have 255 digests, and no byte more. */
 static void longest_outputs(void) {
     static uint8_t out[YZ_HKDF_MAX_OUT_LEN(YZ_MAX_OUTPUT_LEN) + 1];
-    for (uint32_t n = YZ_SHA1; n <= YZ_SHA512; n++) {
+    FOR_EACH_KEYED(n) {
         size_t most = YZ_HKDF_MAX_OUT_LEN(OUTPUT[n]);
         IS(yz_hkdf(n, NULL, 0, NULL, 0, NULL, 0, out, most), YZ_OK);
         IS(yz_hkdf_expand(n, NULL, 0, NULL, 0, out, most), YZ_OK);
@@ -207,7 +209,7 @@ static void labels(void) {
                         CONTEXTS[] = {0, 1, 32, 64, 254, YZ_MAX_CONTEXT_LEN}, LENS[] = {0, 12, 700};
     uint8_t bytes[1000], info[2 + 1 + 255 + 1 + 255], want[700], out[700];
     fill_at_random(bytes, sizeof bytes);
-    for (uint32_t n = YZ_SHA1; n <= YZ_SHA512; n++)
+    FOR_EACH_KEYED(n)
         for (size_t i = 0; i < 6; i++)
             for (size_t j = 0; j < 6; j++)
                 for (size_t k = 0; k < 3; k++) {
@@ -231,7 +233,7 @@ static void refused_labels(void) {
     static const uint8_t bytes[YZ_MAX_CONTEXT_LEN + 1];
     uint8_t out[32];
     memset(out, UNWRITTEN, sizeof out);
-    for (uint32_t n = YZ_SHA1; n <= YZ_SHA512; n++) {
+    FOR_EACH_KEYED(n) {
         IS(yz_hkdf_expand_label(n, bytes, 40, bytes, 0, NULL, 0, out, 32), YZ_UNSPECIFIED);
         IS(yz_hkdf_expand_label(n, bytes, 40, bytes, 250, NULL, 0, out, 32), YZ_UNSPECIFIED);
         IS(yz_hkdf_expand_label(n, bytes, 40, bytes, SIZE_MAX, NULL, 0, out, 32),
@@ -246,7 +248,7 @@ static void refused_labels(void) {
 static void past_the_longest_derived(void) {
     uint8_t out[32];
     memset(out, UNWRITTEN, sizeof out);
-    for (uint32_t n = YZ_SHA1; n <= YZ_SHA512; n++) {
+    FOR_EACH_KEYED(n) {
         size_t more = YZ_PBKDF2_MAX_OUT_LEN(OUTPUT[n]) + 1;
         IS(yz_pbkdf2_derive(n, 1, NULL, 0, NULL, 0, out, more), YZ_WRONG_LENGTH);
         IS(yz_pbkdf2_derive(n, 0, NULL, 0, NULL, 0, out, more), YZ_NO_ITERATIONS);
@@ -262,7 +264,7 @@ static void bytes_of_no_context(void) {
     yz_digest_context context;
     yz_hmac_key key;
     yz_hmac_context tag;
-    for (uint32_t n = YZ_SHA1; n <= YZ_SHA512; n++) {
+    FOR_EACH_KEYED(n) {
         IS(yz_digest_init(n, &context), YZ_OK);
         context.num_pending = (uint32_t)BLOCK[n] - 1;
         IS(yz_digest_final(&context, out, OUTPUT[n]), YZ_OK);
@@ -295,7 +297,7 @@ static void contexts(void) {
     IS(yz_hmac_init(&key, &tag), YZ_UNKNOWN_CONTEXT);
     IS(yz_hmac_update(&tag, text("a"), 1), YZ_UNKNOWN_CONTEXT);
     IS(yz_hmac_final(&tag, out, 32), YZ_UNKNOWN_CONTEXT);
-    for (uint32_t n = YZ_SHA1; n <= YZ_SHA512; n++) {
+    FOR_EACH_KEYED(n) {
         IS(yz_digest_init(n, &context), YZ_OK);
         IS(yz_digest_update(&context, NULL, 0), YZ_OK);
         IS(yz_digest_final(&context, out, OUTPUT[n] - 1), YZ_WRONG_LENGTH);
@@ -385,7 +387,7 @@ static void tag_in_pieces(uint32_t n, size_t key_len, const uint8_t *message, si
 static void pieces(void) {
     uint8_t message[MOST_MESSAGE] = {0};
     for (int turn = 0; turn < PIECES_TURNS; turn++) {
-        uint32_t n = 1 + (uint32_t)below(5);
+        uint32_t n = 1 + (uint32_t)below(ALGORITHMS_COUNT);
         size_t len = below(below(MOST_MESSAGE) + 1);
         fill_at_random(message, len);
         digest_in_pieces(n, message, len);

@@ -1,6 +1,7 @@
 /* SPDX-License-Identifier: ISC */
 /* Threads that share a key, while each has contexts, messages and a key of its own: each gets the
  * tags that one thread got before, and accepts no other. */
+#include "../rows.h"
 #include "check.h"
 #include <pthread.h>
 #include <string.h>
@@ -64,6 +65,6 @@ static void share_key(uint32_t algorithm) {
 }
 
 int main(void) {
-    for (uint32_t n = YZ_SHA1; n <= YZ_SHA512; n++) share_key(n);
+    FOR_EACH_KEYED(n) share_key(n);
     return end_of_checks();
 }

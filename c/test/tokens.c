@@ -376,7 +376,7 @@ static void refused_calls(uint32_t algorithm, size_t key_len, uint32_t step, siz
 
 static void refused_passwords(void) {
     const size_t past = (size_t)1 << 61;
-    static const uint32_t UNKNOWN[] = {0, YZ_SHA512_256, 6, UINT32_MAX};
+    static const uint32_t UNKNOWN[] = {0, YZ_SHA512_256, ALGORITHMS_COUNT + 1, UINT32_MAX};
     static const size_t NONE[] = {0, 1, 5, 9, 10, 11, SIZE_MAX};
     for (size_t i = 0; i < sizeof UNKNOWN / sizeof *UNKNOWN; i++)
         for (size_t digits = 5; digits < 10; digits++)

@@ -94,7 +94,7 @@ static const algorithm algorithms[] = {
             {PLAIN(NOTHING, 0)},
             {{SET, 0, {WORD("digest", "SHA256"), BYTES("key", "a key"), BYTES("salt", "some salt"),
                        BYTES("info", "in"), BYTES("info", "fo")}}},
-            {{SET, 0, {WORD("digest", "SHA224"), BYTES("key", "a key"),
+            {{SET, 0, {WORD("digest", "SHA3-256"), BYTES("key", "a key"),
                        WORD("mode", "EXTRACT_ONLY")}}},
         },
         {
@@ -128,7 +128,7 @@ static const algorithm algorithms[] = {
             {PLAIN(NOTHING, 0)},
             {{SET, 0, {WORD("digest", "SHA256"), BYTES("pass", "password"), BYTES("salt", salt),
                        UINT64("iter", thousand)}}},
-            {{SET, 0, {WORD("digest", "SHA224"), BYTES("pass", "password"), BYTES("salt", salt),
+            {{SET, 0, {WORD("digest", "SHA3-256"), BYTES("pass", "password"), BYTES("salt", salt),
                        UINT64("iter", thousand), INT("pkcs5", no)}}},
         },
         {

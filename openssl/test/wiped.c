@@ -323,7 +323,7 @@ int main(int argc, char **argv)
     is_right = is_wiped("HKDF", hkdf, "SHA256") && is_right;
     is_right = is_wiped("HKDF", hkdf, "SHA3-256") && is_right;
     is_right = is_wiped("PBKDF2", pbkdf2, "SHA256") && is_right;
-    is_right = is_wiped("PBKDF2", pbkdf2, "SHA224") && is_right;
+    is_right = is_wiped("PBKDF2", pbkdf2, "SHA3-256") && is_right;
     for (int i = 1; i >= 0; i--) OSSL_PROVIDER_unload(loaded[i]);
     return !is_right;
 }

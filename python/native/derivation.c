@@ -333,39 +333,29 @@ static PyObject *password_hash_new(PyObject *Py_UNUSED(module), PyObject *const 
 }
 
 PyMethodDef derivation_functions[] = {
-    {"hkdf", METHOD(hkdf), FAST,
-     PyDoc_STR("hkdf($module, /, hash_name, secret, salt, info, length)\n--\n\n"
-               "`length` bytes of output for `info` (RFC 5869): extract, and then expand. "
-               "The secret comes before the salt, and in C behind it.")},
-    {"hkdf_extract", METHOD(hkdf_extract), FAST,
-     PyDoc_STR("hkdf_extract($module, /, hash_name, secret, salt=b'')\n--\n\n"
-               "The pseudorandom key of a secret (RFC 5869, 2.2). In C the salt comes first.")},
-    {"hkdf_expand", METHOD(hkdf_expand), FAST,
-     PyDoc_STR("hkdf_expand($module, /, hash_name, prk, info, length)\n--\n\n"
-               "`length` bytes of output of a pseudorandom key for `info` (RFC 5869, 2.3).")},
-    {"hkdf_expand_label", METHOD(hkdf_expand_label), FAST,
-     PyDoc_STR("hkdf_expand_label($module, /, hash_name, secret, label, context, length)\n--\n\n"
-               "`length` bytes of HKDF-Expand-Label (RFC 8446, 7.1). The label is without its "
-               "prefix.")},
-    {"pbkdf2_hmac", METHOD(pbkdf2_hmac), FAST,
-     PyDoc_STR("pbkdf2_hmac($module, /, hash_name, password, salt, iterations, dklen=None)\n--\n\n"
-               "The key derived from a password (RFC 2898), as `hashlib.pbkdf2_hmac`. "
-               "In C the order is iterations, salt, password.")},
-    {"pbkdf2_hmac_verify", METHOD(pbkdf2_hmac_verify), FAST,
-     PyDoc_STR("pbkdf2_hmac_verify($module, /, hash_name, password, salt, iterations, derived)\n"
-               "--\n\nWhether `derived` isn't empty, and is what `pbkdf2_hmac` gives for its "
-               "length.")},
-    {"password_hash_verify", METHOD(password_hash_verify), FAST,
-     PyDoc_STR("password_hash_verify($module, /, text, password, max_iterations)\n--\n\n"
-               "Whether the hash of this text is the password's.")},
-    {"password_hash_info", METHOD(password_hash_info), FAST,
-     PyDoc_STR("password_hash_info($module, /, text)\n--\n\n"
-               "The scheme and the iterations of this text.")},
-    {"password_hash_salt", METHOD(password_hash_salt), FAST,
-     PyDoc_STR("password_hash_salt($module, /, scheme, random)\n--\n\n"
-               "A salt for a new hash, made of 16 random bytes.")},
-    {"password_hash_new", METHOD(password_hash_new), FAST,
-     PyDoc_STR("password_hash_new($module, /, scheme, password, salt, iterations)\n--\n\n"
-               "The text of the hash of a password.")},
+    FUNCTION("hkdf", hkdf, "hash_name, secret, salt, info, length",
+             "`length` bytes of output for `info` (RFC 5869): extract, and then expand. The "
+             "secret comes before the salt, and in C behind it."),
+    FUNCTION("hkdf_extract", hkdf_extract, "hash_name, secret, salt=b''",
+             "The pseudorandom key of a secret (RFC 5869, 2.2). In C the salt comes first."),
+    FUNCTION("hkdf_expand", hkdf_expand, "hash_name, prk, info, length",
+             "`length` bytes of output of a pseudorandom key for `info` (RFC 5869, 2.3)."),
+    FUNCTION("hkdf_expand_label", hkdf_expand_label, "hash_name, secret, label, context, length",
+             "`length` bytes of HKDF-Expand-Label (RFC 8446, 7.1). The label is without its "
+             "prefix."),
+    FUNCTION("pbkdf2_hmac", pbkdf2_hmac, "hash_name, password, salt, iterations, dklen=None",
+             "The key derived from a password (RFC 2898), as `hashlib.pbkdf2_hmac`. In C the "
+             "order is iterations, salt, password."),
+    FUNCTION("pbkdf2_hmac_verify", pbkdf2_hmac_verify,
+             "hash_name, password, salt, iterations, derived",
+             "Whether `derived` isn't empty, and is what `pbkdf2_hmac` gives for its length."),
+    FUNCTION("password_hash_verify", password_hash_verify, "text, password, max_iterations",
+             "Whether the hash of this text is the password's."),
+    FUNCTION("password_hash_info", password_hash_info, "text",
+             "The scheme and the iterations of this text."),
+    FUNCTION("password_hash_salt", password_hash_salt, "scheme, random",
+             "A salt for a new hash, made of 16 random bytes."),
+    FUNCTION("password_hash_new", password_hash_new, "scheme, password, salt, iterations",
+             "The text of the hash of a password."),
     {NULL, NULL, 0, NULL},
 };

@@ -58,13 +58,11 @@ uint32_t algorithm_of_constructor(PyObject *object)
 
 #define OFFERED(algorithm, name, says) {#name, METHOD(name), FAST, PyDoc_STR(#name TAKES says)},
 PyMethodDef digest_functions[] = {
-    {"new", METHOD(native_new), FAST,
-     PyDoc_STR("new($module, /, name, data=b'', *, usedforsecurity=True, string=...)\n--\n\n"
-               "A digest under the algorithm of a name, as `hashlib.new`.")},
+    FUNCTION("new", native_new, "name, data=b'', *, usedforsecurity=True, string=...",
+             "A digest under the algorithm of a name, as `hashlib.new`."),
     EACH_ALGORITHM(OFFERED)
-    {"digest_each", METHOD(digest_each), FAST,
-     PyDoc_STR("digest_each($module, /, name, messages)\n--\n\n"
-               "The digests of several messages, each at its message's place, by one call.\n\n"
-               "Of four or more under SHA-1 and SHA-256, four at a time are made side by side.")},
+    FUNCTION("digest_each", digest_each, "name, messages",
+             "The digests of several messages, each at its message's place, by one call.\n\n"
+             "Of four or more under SHA-1 and SHA-256, four at a time are made side by side."),
     {NULL, NULL, 0, NULL},
 };

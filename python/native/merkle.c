@@ -217,22 +217,16 @@ static PyObject *consistency_path(PyObject *Py_UNUSED(module), PyObject *const *
 }
 
 PyMethodDef merkle_functions[] = {
-    {"merkle_leaf", METHOD(leaf), FAST,
-     PyDoc_STR("merkle_leaf($module, /, entry)\n--\n\nThe hash of an entry as a leaf.")},
-    {"merkle_verify_inclusion", METHOD(verify_inclusion), FAST,
-     PyDoc_STR("merkle_verify_inclusion($module, /, hash, index, size, path, root)\n--\n\n"
-               "Whether the path proves that a leaf of this hash is in the tree.")},
-    {"merkle_verify_consistency", METHOD(verify_consistency), FAST,
-     PyDoc_STR("merkle_verify_consistency($module, /, first_size, first, second_size, second, "
-               "path)\n--\n\n"
-               "Whether the path proves that the first tree is the beginning of the second.")},
-    {"merkle_root", METHOD(root), FAST,
-     PyDoc_STR("merkle_root($module, /, leaves)\n--\n\nThe root over the hashes of leaves.")},
-    {"merkle_inclusion_path", METHOD(inclusion_path), FAST,
-     PyDoc_STR("merkle_inclusion_path($module, /, leaves, index)\n--\n\n"
-               "The path that proves where a leaf is.")},
-    {"merkle_consistency_path", METHOD(consistency_path), FAST,
-     PyDoc_STR("merkle_consistency_path($module, /, leaves, first_size)\n--\n\n"
-               "The path that proves that the first leaves are the beginning.")},
+    FUNCTION("merkle_leaf", leaf, "entry", "The hash of an entry as a leaf."),
+    FUNCTION("merkle_verify_inclusion", verify_inclusion, "hash, index, size, path, root",
+             "Whether the path proves that a leaf of this hash is in the tree."),
+    FUNCTION("merkle_verify_consistency", verify_consistency,
+             "first_size, first, second_size, second, path",
+             "Whether the path proves that the first tree is the beginning of the second."),
+    FUNCTION("merkle_root", root, "leaves", "The root over the hashes of leaves."),
+    FUNCTION("merkle_inclusion_path", inclusion_path, "leaves, index",
+             "The path that proves where a leaf is."),
+    FUNCTION("merkle_consistency_path", consistency_path, "leaves, first_size",
+             "The path that proves that the first leaves are the beginning."),
     {NULL, NULL, 0, NULL},
 };

@@ -20,6 +20,10 @@
 #define METHOD(function) ((PyCFunction)(void (*)(void))(function))
 #define FAST (METH_FASTCALL | METH_KEYWORDS)
 
+/* A function of the module: its name, its code, its parameters and what its docstring says. */
+#define FUNCTION(name, code, takes, says) \
+    {name, METHOD(code), FAST, PyDoc_STR(name "($module, /, " takes ")\n--\n\n" says)}
+
 /* A buffer as two arguments of a call, as bytes or as text. */
 #define BYTES(view) bytes_of(&(view)), len_of(&(view))
 #define TEXT(view) (const char *)bytes_of(&(view)), len_of(&(view))

@@ -265,14 +265,11 @@ static PyObject *compare_digest(PyObject *Py_UNUSED(module), PyObject *const *ar
 }
 
 PyMethodDef tag_functions[] = {
-    {"hmac_new", METHOD(hmac_new), FAST,
-     PyDoc_STR("hmac_new($module, /, key, msg=None, digestmod='')\n--\n\n"
-               "The tag of a message in pieces.")},
-    {"hmac_digest", METHOD(hmac_digest), FAST,
-     PyDoc_STR("hmac_digest($module, /, key, msg, digest)\n--\n\nThe tag of a message.")},
-    {"hmac_verify", METHOD(hmac_verify), FAST,
-     PyDoc_STR("hmac_verify($module, /, key, msg, tag, digest)\n--\n\n"
-               "Whether `tag` is the whole tag of a message.")},
+    FUNCTION("hmac_new", hmac_new, "key, msg=None, digestmod=''",
+             "The tag of a message in pieces."),
+    FUNCTION("hmac_digest", hmac_digest, "key, msg, digest", "The tag of a message."),
+    FUNCTION("hmac_verify", hmac_verify, "key, msg, tag, digest",
+             "Whether `tag` is the whole tag of a message."),
     {"compare_digest", METHOD(compare_digest), METH_FASTCALL,
      PyDoc_STR("compare_digest($module, a, b, /)\n--\n\n"
                "Whether both are equal bytes, or equal ASCII text. Where their lengths agree, all\n"

@@ -88,15 +88,12 @@ static PyObject *binder_key(PyObject *Py_UNUSED(module), PyObject *const *args,
 }
 
 PyMethodDef tls13_functions[] = {
-    {"tls13_finished", METHOD(finished), FAST,
-     PyDoc_STR("tls13_finished($module, /, hash_name, base_key, transcript_hash)\n--\n\n"
-               "The verify_data of a Finished or a PSK binder (RFC 8446, 4.4.4).")},
-    {"tls13_verify_finished", METHOD(verify_finished), FAST,
-     PyDoc_STR("tls13_verify_finished($module, /, hash_name, base_key, transcript_hash, "
-               "verify_data)\n--\n\n"
-               "Whether this is the verify_data of a Finished or a PSK binder.")},
-    {"tls13_binder_key", METHOD(binder_key), FAST,
-     PyDoc_STR("tls13_binder_key($module, /, hash_name, psk, is_external)\n--\n\n"
-               "The key of the binders of a PSK (RFC 8446, 7.1).")},
+    FUNCTION("tls13_finished", finished, "hash_name, base_key, transcript_hash",
+             "The verify_data of a Finished or a PSK binder (RFC 8446, 4.4.4)."),
+    FUNCTION("tls13_verify_finished", verify_finished,
+             "hash_name, base_key, transcript_hash, verify_data",
+             "Whether this is the verify_data of a Finished or a PSK binder."),
+    FUNCTION("tls13_binder_key", binder_key, "hash_name, psk, is_external",
+             "The key of the binders of a PSK (RFC 8446, 7.1)."),
     {NULL, NULL, 0, NULL},
 };

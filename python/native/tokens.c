@@ -239,23 +239,16 @@ static PyObject *find_totp(PyObject *Py_UNUSED(module), PyObject *const *args,
 }
 
 PyMethodDef token_functions[] = {
-    {"tokens_sign", METHOD(sign), FAST,
-     PyDoc_STR("tokens_sign($module, /, payload, key, algorithm)\n--\n\nThe token of a payload.")},
-    {"tokens_verify", METHOD(verify), FAST,
-     PyDoc_STR("tokens_verify($module, /, token, key, algorithm)\n--\n\n"
-               "The payload of a token that the key signed.")},
-    {"tokens_hotp", METHOD(hotp), FAST,
-     PyDoc_STR("tokens_hotp($module, /, key, counter, digits, digest)\n--\n\n"
-               "The one-time password of a counter.")},
-    {"tokens_totp", METHOD(totp), FAST,
-     PyDoc_STR("tokens_totp($module, /, key, time, digits, digest, interval)\n--\n\n"
-               "The one-time password of a time.")},
-    {"tokens_find_hotp", METHOD(find_hotp), FAST,
-     PyDoc_STR("tokens_find_hotp($module, /, key, otp, first, count, digits, digest)\n--\n\n"
-               "The first counter whose one-time password this is, or None.")},
-    {"tokens_find_totp", METHOD(find_totp), FAST,
-     PyDoc_STR("tokens_find_totp($module, /, key, otp, time, back, ahead, digits, digest, "
-               "interval)\n--\n\n"
-               "The first step whose one-time password this is, or None.")},
+    FUNCTION("tokens_sign", sign, "payload, key, algorithm", "The token of a payload."),
+    FUNCTION("tokens_verify", verify, "token, key, algorithm",
+             "The payload of a token that the key signed."),
+    FUNCTION("tokens_hotp", hotp, "key, counter, digits, digest",
+             "The one-time password of a counter."),
+    FUNCTION("tokens_totp", totp, "key, time, digits, digest, interval",
+             "The one-time password of a time."),
+    FUNCTION("tokens_find_hotp", find_hotp, "key, otp, first, count, digits, digest",
+             "The first counter whose one-time password this is, or None."),
+    FUNCTION("tokens_find_totp", find_totp, "key, otp, time, back, ahead, digits, digest, interval",
+             "The first step whose one-time password this is, or None."),
     {NULL, NULL, 0, NULL},
 };

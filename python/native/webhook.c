@@ -69,14 +69,11 @@ static PyObject *verify_stripe(PyObject *Py_UNUSED(module), PyObject *const *arg
 }
 
 PyMethodDef webhook_functions[] = {
-    {"webhook_verify_hex", METHOD(verify_hex), FAST,
-     PyDoc_STR("webhook_verify_hex($module, /, algorithm, secret, body, header, prefix)\n--\n\n"
-               "Whether the header is the prefix and the hex digits of the body's tag.")},
-    {"webhook_verify_github", METHOD(verify_github), FAST,
-     PyDoc_STR("webhook_verify_github($module, /, secret, body, header)\n--\n\n"
-               "Whether GitHub signs the body with the header.")},
-    {"webhook_verify_stripe", METHOD(verify_stripe), FAST,
-     PyDoc_STR("webhook_verify_stripe($module, /, secret, body, header, tolerance, now)\n--\n\n"
-               "Whether Stripe signs the body with the header, and not too long ago.")},
+    FUNCTION("webhook_verify_hex", verify_hex, "algorithm, secret, body, header, prefix",
+             "Whether the header is the prefix and the hex digits of the body's tag."),
+    FUNCTION("webhook_verify_github", verify_github, "secret, body, header",
+             "Whether GitHub signs the body with the header."),
+    FUNCTION("webhook_verify_stripe", verify_stripe, "secret, body, header, tolerance, now",
+             "Whether Stripe signs the body with the header, and not too long ago."),
     {NULL, NULL, 0, NULL},
 };

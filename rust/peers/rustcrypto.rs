@@ -8,55 +8,21 @@ use hkdf::{Hkdf, SimpleHkdf};
 use hmac::{Hmac, SimpleHmac};
 use std::io;
 use std::num::NonZeroU32;
-use yezdopin_rustcrypto::{HmacSha1, HmacSha256, HmacSha384, HmacSha512};
-use yezdopin_rustcrypto::{Sha1, Sha256, Sha384, Sha512, Sha512_256};
+use yezdopin_rustcrypto::*;
 
-new_test!(sha1, "sha1/sha1", Sha1, fixed_reset_test);
-new_test!(sha256, "sha2/sha256", Sha256, fixed_reset_test);
-new_test!(sha384, "sha2/sha384", Sha384, fixed_reset_test);
-new_test!(sha512, "sha2/sha512", Sha512, fixed_reset_test);
-new_test!(sha512_256, "sha2/sha512_256", Sha512_256, fixed_reset_test);
+#[path = "../../rust/tests/shared/algorithms.rs"]
+mod algorithms;
 
-new_mac_test!(hmac_sha256, "hmac/sha256", HmacSha256);
-new_mac_test!(hmac_sha384, "hmac/sha384", HmacSha384);
-new_mac_test!(hmac_sha512, "hmac/sha512", HmacSha512);
-new_resettable_mac_test!(reset_hmac_sha256, "hmac/sha256", HmacSha256);
-new_resettable_mac_test!(reset_hmac_sha384, "hmac/sha384", HmacSha384);
-new_resettable_mac_test!(reset_hmac_sha512, "hmac/sha512", HmacSha512);
-new_mac_test!(
-    wycheproof_sha1,
-    "hmac/wycheproof-sha1",
-    HmacSha1,
-    trunc_left
-);
-new_mac_test!(
-    wycheproof_sha256,
-    "hmac/wycheproof-sha256",
-    HmacSha256,
-    trunc_left
-);
-new_mac_test!(
-    wycheproof_sha384,
-    "hmac/wycheproof-sha384",
-    HmacSha384,
-    trunc_left
-);
-new_mac_test!(
-    wycheproof_sha512,
-    "hmac/wycheproof-sha512",
-    HmacSha512,
-    trunc_left
-);
+// RustCrypto's hash functions, which have the names of ours.
+mod theirs {
+    pub use sha1::Sha1;
+    pub use sha2::*;
+}
 
-new_mac_test!(simple_hmac_sha256, "hmac/sha256", SimpleHmac<Sha256>);
-new_mac_test!(simple_hmac_sha384, "hmac/sha384", SimpleHmac<Sha384>);
-new_mac_test!(simple_hmac_sha512, "hmac/sha512", SimpleHmac<Sha512>);
-new_mac_test!(
-    simple_wycheproof_sha1,
-    "hmac/wycheproof-sha1",
-    SimpleHmac<Sha1>,
-    trunc_left
-);
+include!("../../rust/rustcrypto/src/rows.rs");
+
+// The tests of RustCrypto's vectors, which the script makes of the files' names.
+include!("vectors.in");
 
 // The digest of 16 MiB and some bytes that `digest` makes up.
 fn of_16_mib<D: Digest + digest::Update>() -> Vec<u8> {
@@ -65,13 +31,15 @@ fn of_16_mib<D: Digest + digest::Update>() -> Vec<u8> {
     hasher.finalize().to_vec()
 }
 
+macro_rules! long_messages_agree {
+    ($($(#[$doc:meta])* $name:ident $text:literal: $algorithm:ident, $output:ty, $block:ty;)*) => {
+        $(assert_eq!(of_16_mib::<$name>(), of_16_mib::<theirs::$name>());)*
+    };
+}
+
 #[test]
 fn long_messages() {
-    assert_eq!(of_16_mib::<Sha1>(), of_16_mib::<sha1::Sha1>());
-    assert_eq!(of_16_mib::<Sha256>(), of_16_mib::<sha2::Sha256>());
-    assert_eq!(of_16_mib::<Sha384>(), of_16_mib::<sha2::Sha384>());
-    assert_eq!(of_16_mib::<Sha512>(), of_16_mib::<sha2::Sha512>());
-    assert_eq!(of_16_mib::<Sha512_256>(), of_16_mib::<sha2::Sha512_256>());
+    each_digest!(long_messages_agree);
 }
 
 #[test]
@@ -82,50 +50,63 @@ fn readers_are_copied_into_digests() {
 }
 
 macro_rules! hkdf_agrees {
-    ($ours:ty, $theirs:ty, $length:expr) => {{
-        let (salt, secret) = (Some(&b"a salt"[..]), b"a secret");
-        let (mut ours, mut theirs) = ([0; $length], [0; $length]);
-        let expanded = SimpleHkdf::<$ours>::new(salt, secret).expand(b"info", &mut ours);
-        let wanted = Hkdf::<$theirs>::new(salt, secret).expand(b"info", &mut theirs);
-        assert!(expanded.is_ok() && wanted.is_ok());
-        assert_eq!(ours, theirs);
-    }};
+    ($($(#[$doc:meta])* $name:ident $text:literal: $algorithm:ident, $output:ty, $block:ty;)*) => {$(
+        for length in [42, 129, 255 * <$name as Digest>::output_size()] {
+            let (salt, secret) = (Some(&b"a salt"[..]), b"a secret");
+            let (mut ours, mut theirs) = (vec![0; length], vec![0; length]);
+            let expanded = SimpleHkdf::<$name>::new(salt, secret).expand(b"info", &mut ours);
+            let wanted = Hkdf::<theirs::$name>::new(salt, secret).expand(b"info", &mut theirs);
+            assert!(expanded.is_ok() && wanted.is_ok());
+            assert_eq!(ours, theirs);
+        }
+    )*};
 }
 
 #[test]
 fn hkdf_over_our_digests() {
-    hkdf_agrees!(Sha1, sha1::Sha1, 255 * 20);
-    hkdf_agrees!(Sha256, sha2::Sha256, 255 * 32);
-    hkdf_agrees!(Sha384, sha2::Sha384, 42);
-    hkdf_agrees!(Sha512, sha2::Sha512, 129);
+    each_digest!(hkdf_agrees);
 }
 
-macro_rules! pbkdf2_agrees {
-    ($mac:ty, $theirs:ty, $algorithm:ident) => {{
-        let (mut ours, mut theirs, mut by_call) = ([0; 100], [0; 100], [0; 100]);
-        let iterations = NonZeroU32::new(10).unwrap();
+const ITERATIONS: u32 = 10;
+
+// A key by RustCrypto's PBKDF2 over a type of tags.
+macro_rules! derived_over {
+    ($mac:ty) => {{
+        let mut key = [0; 100];
         // Version 0.12 answers a result, which only a key's length makes an error.
-        let _ = pbkdf2::pbkdf2::<$mac>(b"a password", b"a salt", 10, &mut ours);
-        let _ = pbkdf2::pbkdf2::<$theirs>(b"a password", b"a salt", 10, &mut theirs);
-        let algorithm = yezdopin::pbkdf2::$algorithm;
-        yezdopin::pbkdf2::derive(
-            algorithm,
-            iterations,
-            b"a salt",
-            b"a password",
-            &mut by_call,
-        );
-        assert_eq!(ours, theirs);
-        assert_eq!(ours, by_call);
+        let _ = pbkdf2::pbkdf2::<$mac>(b"a password", b"a salt", ITERATIONS, &mut key);
+        key
     }};
 }
 
+// The same key by the library's call.
+fn derived(algorithm: yezdopin::pbkdf2::Algorithm) -> [u8; 100] {
+    let iterations = NonZeroU32::new(ITERATIONS).unwrap();
+    let mut key = [0; 100];
+    yezdopin::pbkdf2::derive(algorithm, iterations, b"a salt", b"a password", &mut key);
+    key
+}
+
+macro_rules! pbkdf2_agrees_over_digests {
+    ($($(#[$doc:meta])* $name:ident $text:literal: $algorithm:ident, $output:ty, $block:ty;)*) => {$(
+        let theirs = derived_over!(Hmac<theirs::$name>);
+        assert_eq!(derived_over!(SimpleHmac<$name>), theirs);
+        if let Some(keyed) = algorithms::all_keyed().iter().find(|it| it.name == $text) {
+            assert_eq!(derived(keyed.pbkdf2), theirs);
+        }
+    )*};
+}
+
+macro_rules! pbkdf2_agrees_over_tags {
+    ($($(#[$doc:meta])* $name:ident $text:literal: $algorithm:ident, $output:ty, $block:ty;)*) => {
+        $(assert_eq!(derived_over!($name), derived(algorithms::keyed_named($text).pbkdf2));)*
+    };
+}
+
 #[test]
-fn pbkdf2_over_our_tags() {
-    pbkdf2_agrees!(HmacSha1, Hmac<sha1::Sha1>, PBKDF2_HMAC_SHA1);
-    pbkdf2_agrees!(HmacSha256, Hmac<sha2::Sha256>, PBKDF2_HMAC_SHA256);
-    pbkdf2_agrees!(HmacSha384, Hmac<sha2::Sha384>, PBKDF2_HMAC_SHA384);
-    pbkdf2_agrees!(SimpleHmac<Sha512>, Hmac<sha2::Sha512>, PBKDF2_HMAC_SHA512);
+fn pbkdf2_over_our_digests_and_tags() {
+    each_digest!(pbkdf2_agrees_over_digests);
+    each_tag!(pbkdf2_agrees_over_tags);
 }
 
 #[test]

@@ -24,7 +24,7 @@ MAX_LEN = 65536  # of an output
 LONG_LEN = 70000  # of some inputs
 # Fields that are no name, or no name of a keyed algorithm; and such that are no number, or are past
 # a limit of some field.
-NO_NAMES = ("sha256", "SHA-256", "SHA224", "SHA512_256", "SHA2560", "")
+NO_NAMES = ("sha256", "SHA-256", "SHA3_256", "SHA512_256", "SHA2560", "")
 NO_NUMBERS = ("00", "01", "+1", "-1", "1.0", "0x1", "", "65537", "4294967296", "9" * 20)
 CHARACTERS = "0123456789abcdefABCDEFgGxX,-_ +.\t\r\0\x7f\xe9#"
 # More iterations than these would take long.

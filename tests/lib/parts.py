@@ -62,14 +62,15 @@ def tried(parts, always, is_there, build, attempt, kind=""):
     for name, needed, what in parts:
         missing = [tool for tool in [*always, *needed] if not tools[tool]]
         if missing:
-            print(f"left out: {kind}{name} ({what}), without {', '.join(missing)}")
+            print(f"left out: {kind}{name} ({what}), without {', '.join(missing)}", flush=True)
             skipped += 1
             continue
         fault, left_out = (unbuilt, []) if unbuilt else attempt(name)
         for line in left_out:
             print(line)
         skipped += len(left_out)
-        print(f"FAILED: {kind}{name}:\n{fault}" if fault else f"ok: {kind}{name}: {what}")
+        said = f"FAILED: {kind}{name}:\n{fault}" if fault else f"ok: {kind}{name}: {what}"
+        print(said, flush=True)
         failed += fault is not None
         passed += fault is None
     return passed, failed, skipped

@@ -31,6 +31,7 @@ COUNTED_ONCE = "blocks are loaded and run once beside their count, and nothing e
 AHEAD_ONCE = "each family runs the rounds of one message in one place, and in no loop"
 OF_EACH_FAMILY = "each family calls `{}` in one function"
 OF_ONE_FUNCTION = "`{}` stands in one function"
+OF_BOTH_FORMS = "`{}` stands in the two forms of SHA-2's round"
 ONE_ROTATION = "one function rotates left by 5"
 NO_SIGMA_1 = "no function rotates by the numbers of Σ1"
 NO_NAMED_COUNT = "only those of the rotations and of the sigmas take a count that has a name"
@@ -432,16 +433,16 @@ PLANTED = {
         f"{RUN_AHEAD}",
     ),
     "SHA-1's round stands twice, over its function": second_round(
-        OF_ONE_FUNCTION.format("round_function"),
+        OF_ONE_FUNCTION.format("plus_function"),
         "sha1",
         "a, b, c, d, e",
-        "a.rotr(n).plus(round_function(0, b, c, d)).plus(e).plus(sum), a, b.rotr(2), c, d",
+        "plus_function(e.plus(sum), 0, b, c, d).plus(a.rotr(n)), a, b.rotr(2), c, d",
     ),
     "SHA-1's round stands twice, by Ch": second_round(
-        OF_EACH_FAMILY.format("choose_word"),
+        OF_EACH_FAMILY.format("plus_choose"),
         "sha1",
         "a, b, c, d, e",
-        "a.rotr(n).plus(choose_word(b, c, d)).plus(e).plus(sum), a, b.rotr(2), c, d",
+        "plus_choose(e.plus(sum), b, c, d).plus(a.rotr(n)), a, b.rotr(2), c, d",
     ),
     "SHA-1's round stands twice, by its rotation": second_round(
         ONE_ROTATION,
@@ -456,16 +457,16 @@ PLANTED = {
         "(a << 5 | a >> 27) + (b ^ c ^ d) + e + sum, a, b << 30 | b >> 2, c, d",
     ),
     "SHA-2's round stands twice, over its constants": second_round(
-        OF_ONE_FUNCTION.format("BIG_SIGMA_1"),
+        OF_BOTH_FORMS.format("BIG_SIGMA_1"),
         "sha2",
         "a, b, c, d, e, f, g, h",
-        "h.plus(big_sigma(e, S::One::BIG_SIGMA_1)).plus(sum), a, b, c, d, e, f, g",
+        "h.plus(big_sigma_nested(e, S::One::BIG_SIGMA_1)).plus(sum), a, b, c, d, e, f, g",
     ),
     "SHA-2's round stands twice, by Ch": second_round(
-        OF_EACH_FAMILY.format("choose_word"),
+        OF_EACH_FAMILY.format("plus_choose"),
         "sha2",
         "a, b, c, d, e, f, g, h",
-        "h.plus(big_sigma(e, n)).plus(choose_word(e, f, g)).plus(sum), a, b, c, d, e, f, g",
+        "plus_choose(h.plus(sum), e, f, g).plus(big_sigma_apart(e, n)), a, b, c, d, e, f, g",
     ),
     "SHA-2's round stands twice, by its rotations": second_round(
         NO_SIGMA_1,
@@ -477,7 +478,7 @@ PLANTED = {
         "Σ1 of SHA-512 stands in one place",
         "sha2",
         "a, b, c, d, e, f, g, h",
-        "h.plus(big_sigma(e, (14, 18, 41))).plus(sum), a, b, c, d, e, f, g",
+        "h.plus(big_sigma_apart(e, (14, 18, 41))).plus(sum), a, b, c, d, e, f, g",
     ),
     "SHA-1's round stands twice, by a rotation whose count has a name": second_round(
         NO_NAMED_COUNT,

@@ -1,6 +1,7 @@
 # SPDX-License-Identifier: ISC
 """How the doors are built and tested in a copy of the repository, and a body is tried there."""
 
+import contextlib
 import dataclasses
 import os
 import pathlib
@@ -10,7 +11,8 @@ import signal
 import subprocess
 
 ROOT = pathlib.Path(__file__).resolve().parents[2]
-# The longest that a test may take, in seconds, before it counts as one that fails.
+# A test counts as one that fails when it has taken so many seconds of processor, or has taken next
+# to none for so many seconds.
 PATIENCE = 400
 
 
@@ -151,16 +153,29 @@ def copied_to(room):
     return room
 
 
+def processor_time(session):
+    """The seconds of processor that the processes of a session took, and those they waited for."""
+    ticks = 0
+    for path in pathlib.Path("/proc").glob("[0-9]*/stat"):
+        with contextlib.suppress(OSError):  # of one that has ended
+            fields = path.read_text().rpartition(") ")[2].split()
+            ticks += sum(map(int, fields[11:15])) if int(fields[3]) == session else 0
+    return ticks / os.sysconf("SC_CLK_TCK")
+
+
 def ended(words, **settings):
     """How a command ends, with all that it started: its status, and what it said."""
+    used, said = 0, None
     with subprocess.Popen(words, stdout=subprocess.PIPE, stderr=subprocess.STDOUT,
                           start_new_session=True, **settings) as run:
-        try:
-            said, _ = run.communicate(timeout=PATIENCE)
-        except subprocess.TimeoutExpired:
-            os.killpg(run.pid, signal.SIGKILL)
-            said, _ = run.communicate()
-            said += f"\nlonger than {PATIENCE} seconds".encode()
+        while said is None:
+            try:
+                said, _ = run.communicate(timeout=PATIENCE)
+            except subprocess.TimeoutExpired:
+                before, used = used, processor_time(run.pid)
+                if used > PATIENCE or used - before < 1:
+                    os.killpg(run.pid, signal.SIGKILL)
+                    said = run.communicate()[0] + f"\nlonger than {PATIENCE} seconds".encode()
     return run.returncode, said.decode(errors="replace")
 
 

@@ -271,6 +271,20 @@ class Alone(Case):
         os.chmod(self.path / "t/shut", 0o700)
         self.assertEqual(found, (1, self.lines(["t/a"]), b"sums: t/shut: Permission denied\n"))
 
+    def test_long_paths(self):
+        """A folder whose path has more than 4,096 bytes is told, and all else is read."""
+        self.write("t/a", b"abc")
+        with contextlib.ExitStack() as stack:
+            folder = os.open(self.path / "t", os.O_DIRECTORY)
+            stack.callback(os.close, folder)
+            for _ in range(21):
+                os.mkdir("b" * 200, dir_fd=folder)
+                folder = os.open("b" * 200, os.O_DIRECTORY, dir_fd=folder)
+                stack.callback(os.close, folder)
+        status, output, error = self.run_all(["-r", "t"])
+        self.assertEqual((status, output), (1, self.lines(["t/a"])))
+        self.assertRegex(error, rb"\Asums: t/(b{200}/)+b{200}: File name too long\n\Z")
+
     def test_many_files(self):
         """20,000 files: all lines in order, and a check of them."""
         names = [f"d{place // 1000}/f{place}" for place in range(20_000)]

@@ -4,7 +4,7 @@
 from __future__ import annotations
 
 import typing
-from typing import TYPE_CHECKING, Any, Callable, TypeVar, overload
+from typing import TYPE_CHECKING, Any, Callable, overload
 
 from yezdopin._native import Digest, new
 
@@ -22,7 +22,7 @@ class _Running(typing.Protocol):
     def update(self, data: _Buffer, /) -> Any: ...
 
 
-_Hash = TypeVar("_Hash", bound=_Running)
+_Hash = typing.TypeVar("_Hash", bound=_Running)
 
 
 # The underscores say the same as the slash below, to tools that don't read it in overloads.

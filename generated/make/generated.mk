@@ -54,6 +54,10 @@ endef
 EXCHANGE = '$(PYTHON) -B "$(CURDIR)/generated/make/instructions.py" $(ARCH)' \
     $(if $(filter x86_64,$(ARCH)),-msha,-march=armv8-a+sha2)
 BUILDERS = generated/make/kit.sh generated/make/instructions.py
+# What chooses the form of rounds for x86-64-v3, and the order in which clang schedules instructions:
+# otherwise one message of SHA-512 takes 6 per cent longer.
+CHOOSE_V3 = '$(PYTHON) -B "$(CURDIR)/generated/make/instructions.py" x86_64-v3' \
+    -mllvm -misched-prera-direction=topdown
 
 ifneq ($(origin BUILT),command line)
 ifneq ($(ARCH),x86_64)
@@ -71,7 +75,7 @@ else
 # registers set, as LLVM does, they are slow on some processors: the build for x86-64-v2 has them.
 $(BUILT) $(BUILT_V3) $(KIT_OUT)/libring_c.v2/flags $(KIT_OUT)/libring_c.v3/flags &: \
     $(SOURCES) crates.txt $(BUILDERS)
-	$(call build,--cpu=x86-64-v3,$(BUILT_V3),'')
+	$(call build,--cpu=x86-64-v3,$(BUILT_V3),$(CHOOSE_V3))
 	$(call build,,$(BUILT),$(EXCHANGE))
 
 # The builds, whose calls get the names that dispatch.c calls them by: those that it asks for where
@@ -103,7 +107,7 @@ $(KIT_OUT)/yezdopin_windows_x86_64_v3.S: OTHER_NAMES = /dev/null
 $(WINDOWS_MADE): $(KIT_OUT)/yezdopin_windows_x86_64_%.S: $(KIT_OUT)/libring_c.%/flags \
     $(KIT_OUT)/%.renamed $(OUT)/names generated/make/windows.py
 	$(PYTHON) -B generated/make/windows.py $(<D) $*_ $(KIT_OUT)/$*.renamed $(OTHER_NAMES) $@ $(NOTES) \
-	    $(if $(filter v2,$*),"$(EXCHANGED) $(exchanger)")
+	    "$(if $(filter v2,$*),$(EXCHANGED),$(CHOSEN)) $(exchanger)"
 endif
 
 # The crate's calls: those of the header without what processor.c and status.c have.
@@ -141,16 +145,17 @@ NOTES = 'SPDX-License-Identifier: ISC' '' \
 trees = $$(for it in $(CRATES); do echo "$$it $$(git rev-parse --short=12 HEAD:crates/$$it)"; done \
     | xargs)$$(git diff --quiet HEAD -- $(CRATES:%=crates/%) || echo ', and changes since')
 
-# The further line of a head, of a text with the processor's instructions.
+# The further line of a head: of a text with the processor's instructions, and of that for x86-64-v3.
 EXCHANGED = Instructions: put in the place of proved functions by instructions.py, git blob
+CHOSEN = Rounds: in the form chosen by instructions.py, git blob
 exchanger = $$(git hash-object generated/make/instructions.py | cut -c-12)
 
 # The text of the builds for ARCH, and for x86-64 those for Windows.
 generated-$(ARCH): $(TEXTS:generated/%.S=$(KIT_OUT)/%.o) $(WINDOWS_MADE)
-	note="$(EXCHANGED) $(exchanger)"; \
 	for it in $(TEXTS:generated/%.S=%); do \
-	    case $$it in *_v3) set --;; *) set -- "$$note";; esac; \
-	    $(PYTHON) -B generated/make/assembly.py $(KIT_OUT)/$$it.o $(KIT_OUT)/$$it.S $(NOTES) "$$@" \
+	    case $$it in *_v3) note='$(CHOSEN)';; *) note='$(EXCHANGED)';; esac; \
+	    $(PYTHON) -B generated/make/assembly.py $(KIT_OUT)/$$it.o $(KIT_OUT)/$$it.S $(NOTES) \
+	        "$$note $(exchanger)" \
 	        && mv $(KIT_OUT)/$$it.S generated || exit 1; \
 	done
 	$(if $(WINDOWS_MADE),mv $(WINDOWS_MADE) generated)

@@ -12,7 +12,8 @@ functions of TABLE keep their bodies.
 
 A question of TABLE has no contract, so its callers are proved for each answer. `are_there` answers
 whether the processor has the instructions: it reads the byte BYTE, which C code sets.
-`is_window_chosen`, in a module for JavaScript, answers that kernels over a window run one message.
+`is_window_chosen`, in a module for JavaScript, answers that kernels over a window run one message,
+and `has_rorx_and_andn`, in one for x86-64-v3, that rounds have the form for these instructions.
 
 A module is refused, and nothing written, if it is another processor's, or if a function of TABLE is
 missing, has another type, is defined twice, may be inlined, is never called, or is used but by a
@@ -71,6 +72,7 @@ TABLE = {
         "sha256su1": Instruction(f"{ARM}.sha256su1", THREE, VECTOR),
     }),
     "wasm64": ("ring_core::digest::kernel::", {"is_window_chosen": IS_CHOSEN}),
+    "x86_64-v3": ("ring_core::digest::form::", {"has_rorx_and_andn": IS_CHOSEN}),
 }
 # What the kit marks a function with that is never inlined.
 NEVER_INLINED = "noinline nounwind"
@@ -142,8 +144,12 @@ class Module:
 
     def check_whole(self, processor):
         """The module is the processor's, and has none of the names that are put into it."""
-        if not any(it.startswith(f'target triple = "{processor}-') for it in self.lines):
+        family, _, level = processor.partition("-")
+        if not any(it.startswith(f'target triple = "{family}-') for it in self.lines):
             refuse(f"no module for {processor}")
+        if level and any(f'"target-cpu"="x86-64-{level}"' not in it
+                         for it in self.attributes.values() if '"target-cpu"=' in it):
+            refuse(f"a function for another processor than {processor}")
         taken = re.compile(rf"@({BYTE}\b|{re.escape(X86)}\.sha|{re.escape(ARM)}\.sha)")
         if (line := next(filter(taken.search, self.lines), None)):
             refuse(f"the module has such a name already: {line}")

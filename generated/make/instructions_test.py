@@ -19,8 +19,10 @@ from pathlib import Path
 PROGRAM = Path(__file__).parent / "instructions.py"
 PREFIX = {"x86_64": "ring_core::digest::instructions::x86::",
           "aarch64": "ring_core::digest::instructions::arm::",
-          "wasm64": "ring_core::digest::kernel::"}
-QUESTION = {"x86_64": "are_there", "aarch64": "are_there", "wasm64": "is_window_chosen"}
+          "wasm64": "ring_core::digest::kernel::",
+          "x86_64-v3": "ring_core::digest::form::"}
+QUESTION = {"x86_64": "are_there", "aarch64": "are_there", "wasm64": "is_window_chosen",
+            "x86_64-v3": "has_rorx_and_andn"}
 BYTE = "yz_instructions"
 # The functions of a processor, by how many arguments they have. A word is the second of three, or
 # the only one.
@@ -31,6 +33,7 @@ FUNCTIONS = {
     "aarch64": {"sha1c": 3, "sha1h": 1, "sha1m": 3, "sha1p": 3, "sha1su0": 3, "sha1su1": 2,
                 "sha256h": 3, "sha256h2": 3, "sha256su0": 2, "sha256su1": 3},
     "wasm64": {},
+    "x86_64-v3": {},
 }
 WITH_WORD = {"sha1c", "sha1m", "sha1p"}
 # What LLVM calls the instructions: each function has the name of its own.
@@ -40,6 +43,7 @@ ANSWERS = {
     "are_there": ["  %byte = load atomic i8, ptr @yz_instructions monotonic, align 1",
                   "  %new = icmp ne i8 %byte, 0", "  ret i1 %new"],
     "is_window_chosen": ["  ret i1 true"],
+    "has_rorx_and_andn": ["  ret i1 true"],
 }
 ATTRIBUTES = 'noinline nounwind "no-builtin-bcmp" "target-cpu"="x86-64-v2"'
 # What is changed in a module, by a pattern in which {p} is the prefix and {q} the question, and
@@ -153,7 +157,8 @@ def wanted_declarations(processor, names):
 
 def module(processor):
     """A small module for a processor, in which another function calls all of the table."""
-    lines, calls = [f'target triple = "{processor}-unknown-linux-gnu"'], []
+    family, _, level = processor.partition("-")
+    lines, calls = [f'target triple = "{family}-unknown-linux-gnu"'], []
     prefix = PREFIX[processor]
     for name, count in FUNCTIONS[processor].items():
         made, call = function(prefix + name, count, name in WITH_WORD)
@@ -165,7 +170,8 @@ def module(processor):
               f"  %r3 = call i1 {question}, !range !2", "  ret void", "}"]
     lines += ['attributes #0 = { nounwind "target-cpu"="x86-64-v2" }',
               f"attributes #1 = {{ {ATTRIBUTES} }}", "!2 = !{i8 0, i8 2}"]
-    return "".join(f"{it}\n" for it in lines)
+    text = "".join(f"{it}\n" for it in lines)
+    return text.replace("x86-64-v2", f"x86-64-{level}") if level else text
 
 
 def run(processor, text, *options):
@@ -200,7 +206,7 @@ def faults_of_taken(processor, text, *options):
     declared = sorted(declares.difference(text.split("\n")))
     if declared != wanted_declarations(processor, names[1:]):
         return f"other declarations: {' '.join(declared)}"
-    if (BYTE in wrote) != (processor != "wasm64"):
+    if (BYTE in wrote) != (QUESTION[processor] == "are_there"):
         return f"{BYTE} is for the processors' instructions, and for these alone"
     return None if wrote.startswith(rest) else "another line is changed"
 
@@ -240,8 +246,11 @@ def main():
     tried = [("for ARM", faults_of_taken("aarch64", module("aarch64"))),
              ("for ARM as one for x86-64",
               faults_of_refused("x86_64", module("aarch64"), "no module for x86_64"))]
-    for processor in ("x86_64", "wasm64"):
+    for processor in ("x86_64", "wasm64", "x86_64-v3"):
         tried += cases(processor, module(processor))
+    tried.append(("for x86-64-v2 as one for v3", faults_of_refused(
+        "x86_64-v3", module("x86_64-v3").replace("x86-64-v3", "x86-64-v2", 1),
+        "a function for another processor than x86_64-v3")))
     if given.module:
         text = Path(given.module).read_text(encoding="utf-8")
         tried += cases(re.search(r'^target triple = "(\w+)-', text, re.M)[1], text)

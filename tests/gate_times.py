@@ -24,7 +24,7 @@ sys.path.append(str(pathlib.Path(__file__).resolve().parent / "lib"))
 import counted
 
 ROOT = pathlib.Path(__file__).resolve().parent.parent
-COPIED = (".ci/run", ".ci/may_lack", "tools/crate_times", "tools/gate_times")
+COPIED = (".ci/run", ".ci/may_lack", "tests/lib/kept.py", "tools/crate_times", "tools/gate_times")
 PASSES = "#!/bin/sh\necho '1 passed, 0 failed'\n"
 # Proves what the file `proofs` says side by side: a line has a folder, seconds and the words of a
 # command. A child spends half of the seconds, and after it another one the others.

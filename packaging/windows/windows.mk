@@ -111,7 +111,7 @@ windows-tests: $(WINDOWS_FILES) $(WINDOWS_ARCHIVES) $(OUT)/wine/system.reg
 	test "$$($(MINGW)nm -u $(WINDOWS)/libyezdopin.a \
 	    | awk '$$1 == "U" && $$2 !~ /^(v[23]|yz)_/ { print $$2 }' | sort -u | xargs)" = \
 	    'memcpy memmove memset'
-	test "$$($(MINGW)objdump -p $(DLL) | awk '$$1 == "[" && $$3 ~ /^[a-z]/ { print $$3 }' | sort \
+	test "$$($(MINGW)objdump -p $(DLL) | awk '$$1 == "[" && $$NF ~ /^[a-z]/ { print $$NF }' | sort \
 	    | xargs)" = "$$(sort $(OUT)/names | xargs)"
 
 # A program over both libraries, as Microsoft's compiler and linker are called.

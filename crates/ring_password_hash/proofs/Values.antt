@@ -110,10 +110,24 @@ module _ {k : Scheme} {p : Parameters} {c : NonZeroU32} {s h text : List ℕ}
       (sym read ∙ whole) in
       (both.2, both.3)
 
-  pub salt_read : {rest salt behind : List ℕ}
+  salt_read : {rest salt behind : List ℕ}
       → rest ≡ field_then (salt_encoding_of k) s 36 (kept_text k h)
       → rest ≡ field_then (salt_encoding_of k) salt 36 behind → IsBytes salt
       → IsWithout 36 (written (salt_encoding_of k) salt) → (salt ≡ s) × (behind ≡ kept_text k h)
   salt_read head read bytes apart =
       field_then-injective (salt_encoding_of k) 36 bytes parts.salt_bytes apart
       (salt_apart k s parts.salt parts.salt_bytes) (sym read ∙ head)
+
+-- a value's parts, where a text that it has is read to the end of the salt
+pub front_read : {k : Scheme} {text : List ℕ} (h : Parts) → h.scheme ≡ k → IsTextOf h text
+    → (q : Parameters) (d : NonZeroU32) {n : ℕ} {rest salt behind : List ℕ}
+    → (text ≡ head_then k q d n rest) × IsCount d × IsLen k q n
+    → (rest ≡ field_then (salt_encoding_of k) salt 36 behind)
+    × IsWithout 36 (written (salt_encoding_of k) salt) → IsBytes salt
+    → IsParts k h.parameters h.iterations h.salt h.kept × (n ≡ length h.kept) × (salt ≡ h.salt)
+    × (behind ≡ kept_text k h.kept)
+front_read h same of q d read found bytes =
+    let at = parts_at h same of in
+    let head = head_read at.0 at.1 q d read.0 read.1 read.2 in
+    let salt = salt_read at.0 at.1 head.1 found.0 bytes found.1 in
+    (at.0, head.0, salt.0, salt.1)

@@ -7,7 +7,7 @@ use Rattle.std.proofs.lemmas.Bool.Decides.{nat_tests}
 use Rattle.std.proofs.lemmas.List.{length-append, length-drop, length-take}
 use Rattle.std.specs.declared.num.NonZeroU32.{NonZeroU32}
 use Rattle.ring_password_hash.specs.Scheme.{keeps_keys, kept_encoding_of, salt_encoding_of}
-use Rattle.ring_password_hash.specs.Stored.{Parts, front_of, is_past, parts_text, text_of}
+use Rattle.ring_password_hash.specs.Stored.{Parts, front_text, is_past, parts_text, text_of}
 use Rattle.ring_password_hash.specs.Text.{IsPut, IsPutTo, field_then, head_then, kept_by, kept_text}
 use Rattle.ring_password_hash.specs.Text.{written}
 use Rattle.ring_password_hash.specs.declared.scheme.Encoding.{Encoding}
@@ -17,6 +17,9 @@ use Rattle.ring_password_hash.specs.declared.text.Parameters.{Parameters}
 use Rattle.ring_password_hash.specs.declared.text.TheConstants.{MAX_TEXT_LEN}
 use Rattle.ring_password_hash.proofs.Heads.{append-head_then}
 use Rattle.ring_password_hash.proofs.Pieces.{length-written, shorter}
+
+abbrev front_of : Parts → List ℕ
+front_of h = front_text h.scheme h.parameters h.iterations (length h.kept) h.salt
 
 -- the text is what stands before what is kept, and that
 pub text_parts : (h : Parts) → front_of h ++ kept_text h.scheme h.kept ≡ text_of h
@@ -77,7 +80,7 @@ module _ (k : Scheme) (p : Parameters) (c : NonZeroU32) (s : List ℕ) where
   length-parts_text g h e =
       let kept = length-kept_by (keeps_keys k) (kept_encoding_of k) g h e in
       let front : length (front_of (of_kept g)) ≡ length (front_of (of_kept h)) =
-      ap (λ (n : ℕ). length (head_then k p c n [] ++ field_then (salt_encoding_of k) s 36 [])) e in
+      ap (λ (n : ℕ). length (front_text k p c n s)) e in
       let one = length-append (front_of (of_kept g)) (kept_text k g) in
       let two = length-append (front_of (of_kept h)) (kept_text k h) in
       sym (ap length (text_parts (of_kept g))) ∙ omega (arith, front, kept, one, two)

@@ -50,10 +50,10 @@ parts_text k p c salt kept =
 abbrev pub text_of : Parts → List ℕ
 text_of h = parts_text h.scheme h.parameters h.iterations h.salt h.kept
 
--- what stands before what is kept
-abbrev pub front_of : Parts → List ℕ
-front_of h = head_then h.scheme h.parameters h.iterations (length h.kept) []
-    ++ field_then (salt_encoding_of h.scheme) h.salt 36 []
+-- what stands before what is kept, which has n bytes
+abbrev pub front_text : Scheme → Parameters → (c : NonZeroU32) (n : ℕ) (salt : List ℕ) → List ℕ
+front_text k p c n salt =
+    head_then k p c n [] ++ field_then (salt_encoding_of k) salt 36 []
 
 -- a salt that is written as it is has no byte that ends it
 abbrev pub is_text : Encoding → Bool

@@ -25,7 +25,7 @@ ghost use Rattle.std.specs.List.{list_all};
 ghost use Rattle.ring_password_hash.specs.Scheme.{keeps_keys, kept_len_of, names_len};
 ghost use Rattle.ring_password_hash.specs.Stored.{IsFilled, IsNew, IsReadWhere, IsStored, IsTextOf};
 ghost use Rattle.ring_password_hash.specs.Stored.{Keeps, Makes, Parts, Reads, Tests, Writes};
-ghost use Rattle.ring_password_hash.specs.Stored.{answer_of, front_of, is_past, is_salt, is_text};
+ghost use Rattle.ring_password_hash.specs.Stored.{answer_of, front_text, is_past, is_salt, is_text};
 ghost use Rattle.ring_password_hash.specs.Stored.{new_parts, parameters_where, parts, parts_of};
 ghost use Rattle.ring_password_hash.specs.Stored.{text_of};
 ghost use Rattle.ring_password_hash.specs.Text.{IsPut};
@@ -261,19 +261,19 @@ impl Stored {
     }
 }
 
-// Writes the head, the salt and the byte that ends it.
+// Writes the head of a text that keeps so many bytes, the salt and the byte that ends it.
 fn put_front(
     out: &mut [u8; MAX_TEXT_LEN],
     scheme: Scheme,
     parameters: Parameters,
     iterations: NonZeroU32,
+    kept_len: usize,
     salt: &[u8],
-    kept: &[u8],
 ) -> Option<usize>
-    ensures { IsPut 0 (front_of (parts scheme parameters iterations salt.now kept.now))
+    ensures { IsPut 0 (front_text scheme parameters iterations kept_len salt.now)
         out.old out.new result }
 {
-    let at = put_head(out, scheme, parameters, iterations, kept.len())?;
+    let at = put_head(out, scheme, parameters, iterations, kept_len)?;
     let at = put_field(out, at, scheme.row().salt, salt)?;
     put(out, at, b"$")
 }
@@ -291,7 +291,7 @@ fn put_text(
     ensures { IsPut 0 (text_of (parts scheme parameters iterations salt.now kept.now))
         out.old out.new result }
 {
-    let at = put_front(out, scheme, parameters, iterations, salt, kept)?;
+    let at = put_front(out, scheme, parameters, iterations, kept.len(), salt)?;
     put_kept(out, at, scheme, kept)
 }
 

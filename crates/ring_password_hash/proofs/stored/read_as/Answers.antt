@@ -6,8 +6,7 @@ use Rattle.ring_password_hash.specs.Scheme.{salt_encoding_of}
 use Rattle.ring_password_hash.specs.Stored.{IsTextOf, is_salt, parts_text}
 use Rattle.ring_password_hash.specs.Text.{IsLen, field_then, head_then, kept_text}
 use Rattle.ring_password_hash.proofs.Heads.{keys_len, rest_within}
-use Rattle.ring_password_hash.proofs.Values.{head_read, own_text, parts_at, salt_apart}
-use Rattle.ring_password_hash.proofs.Values.{salt_read}
+use Rattle.ring_password_hash.proofs.Values.{front_read, head_read, own_text, parts_at, salt_apart}
 use Rattle.ring_password_hash.proofs.stored.read_as.Goals as goal
 
 pub returns-in_err-parameters-clause-refused : goal.returns-in_err-parameters-clause-refused
@@ -39,24 +38,18 @@ returns-in_err-salt_len-clause-refused c = λ _ h same e.
 
 pub returns-then-not-is_salt-clause-refused : goal.returns-then-not-is_salt-clause-refused
 returns-then-not-is_salt-clause-refused c = λ _ h same e.
-    let at = parts_at h same e in
-    let read = c.in_ok-parameters.ensures.ok in
-    let head = head_read at.0 at.1 _ _ read.0 read.1 read.2 in
-    let found = rw c.row.ensures.salt at c.in_ok-salt_len.ensures.ok in
-    let two =
-    salt_read at.0 at.1 head.1 found.0 (bytes_front _ _ c.field_into.ensures.bytes) found.1 in
-    let told = c.is_salt.ensures ∙ ap (is_salt c.args.scheme) two.0 ∙ at.0.salt in
+    let read = front_read h same e _ _ c.in_ok-parameters.ensures.ok
+    (rw c.row.ensures.salt at c.in_ok-salt_len.ensures.ok)
+    (bytes_front _ _ c.field_into.ensures.bytes) in
+    let told = c.is_salt.ensures ∙ ap (is_salt c.args.scheme) read.2 ∙ read.0.salt in
     true≢false (sym told ∙ c.if-not-is_salt.true)
 
 pub returns-then-not-kept_into-clause-refused : goal.returns-then-not-kept_into-clause-refused
 returns-then-not-kept_into-clause-refused c = λ _ h same e.
-    let at = parts_at h same e in
-    let read = c.in_ok-parameters.ensures.ok in
-    let head = head_read at.0 at.1 _ _ read.0 read.1 read.2 in
-    let found = rw c.row.ensures.salt at c.in_ok-salt_len.ensures.ok in
-    let two =
-    salt_read at.0 at.1 head.1 found.0 (bytes_front _ _ c.field_into.ensures.bytes) found.1 in
-    c.kept_into.ensures.refused c.if-not-kept_into.true h.kept at.0.kept_bytes (sym head.0) two.1
+    let read = front_read h same e _ _ c.in_ok-parameters.ensures.ok
+    (rw c.row.ensures.salt at c.in_ok-salt_len.ensures.ok)
+    (bytes_front _ _ c.field_into.ensures.bytes) in
+    c.kept_into.ensures.refused c.if-not-kept_into.true h.kept read.0.kept_bytes (sym read.1) read.3
 
 pub returns-clause-ok : goal.returns-clause-ok
 unfolding parts_text

@@ -9,7 +9,7 @@ ghost use Rattle.ring_merkle.specs.Cost.{both_blocks, consistency_blocks};
 ghost use Rattle.ring_merkle.specs.Gives.{VerifiesConsistency};
 
 use crate::hash::{HASH_LEN, is_same};
-use crate::place::Place;
+use crate::place::{Place, TreeHead};
 use ring::cost::Meter;
 use ring::laws::digest_has_output_len;
 
@@ -53,29 +53,27 @@ pub(crate) fn first_place(first_size: u64, second_size: u64) -> Place
 
 // Whether the verification accepts `path`.
 fn is_consistent(
-    first_size: u64,
-    first: &[u8; HASH_LEN],
-    second_size: u64,
-    second: &[u8; HASH_LEN],
+    first: TreeHead,
+    second: TreeHead,
     path: &[[u8; HASH_LEN]],
     meter: &mut Meter,
 ) -> bool
-    ensures exact { IsTrue result
-        ↔ IsConsistent first_size second_size path.now first.now second.now }
-    ensures cost { meter.new ≡ raised meter.old
-        (consistency_blocks first_size second_size first.now path.now) 0 }
+    ensures exact { IsTrue result ↔ IsConsistent first.entry.size second.entry.size path.now
+        first.entry.root.now second.entry.root.now }
+    ensures cost { meter.new ≡ raised meter.old (consistency_blocks first.entry.size
+        second.entry.size first.entry.root.now path.now) 0 }
 {
-    if first_size == 0 || first_size >= second_size {
+    if first.size == 0 || first.size >= second.size {
         return false;
     }
     let Some((value, rest)) = path.split_first() else {
         return false;
     };
-    let start = first_place(first_size, second_size);
-    if first_size.is_power_of_two() {
-        leads_to_both(first, start, path, first, second, meter)
+    let start = first_place(first.size, second.size);
+    if first.size.is_power_of_two() {
+        leads_to_both(first.root, start, path, first.root, second.root, meter)
     } else {
-        leads_to_both(value, start, rest, first, second, meter)
+        leads_to_both(value, start, rest, first.root, second.root, meter)
     }
 }
 
@@ -96,7 +94,15 @@ pub fn verify_consistency_counted(
         (consistency_blocks first_size second_size first.now path.now) 0 }
 {
     digest_has_output_len();
-    is_consistent(first_size, first, second_size, second, path, meter)
+    let first = TreeHead {
+        size: first_size,
+        root: first,
+    };
+    let second = TreeHead {
+        size: second_size,
+        root: second,
+    };
+    is_consistent(first, second, path, meter)
 }
 
 /// Whether `path` proves that the tree of `first_size` leaves whose tree hash is `first` is the

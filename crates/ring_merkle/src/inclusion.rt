@@ -8,7 +8,7 @@ ghost use Rattle.ring_merkle.specs.Gives.{VerifiesInclusion};
 ghost use Rattle.ring_merkle.specs.Inclusion.{IsIncluded};
 
 use crate::hash::{HASH_LEN, is_same};
-use crate::place::Place;
+use crate::place::{Place, TreeHead};
 use ring::cost::Meter;
 use ring::laws::digest_has_output_len;
 
@@ -16,25 +16,26 @@ use ring::laws::digest_has_output_len;
 fn is_included(
     hash: &[u8; HASH_LEN],
     index: u64,
-    size: u64,
+    tree: TreeHead,
     path: &[[u8; HASH_LEN]],
-    root: &[u8; HASH_LEN],
     meter: &mut Meter,
 ) -> bool
-    ensures exact { IsTrue result ↔ IsIncluded hash.now index size path.now root.now }
-    ensures cost { meter.new ≡ raised meter.old (inclusion_blocks index size path.now) 0 }
+    ensures exact { IsTrue result
+        ↔ IsIncluded hash.now index tree.entry.size path.now tree.entry.root.now }
+    ensures cost { meter.new
+        ≡ raised meter.old (inclusion_blocks index tree.entry.size path.now) 0 }
 {
-    if index >= size {
+    if index >= tree.size {
         return false;
     }
     let start = Place {
         node: index,
-        last: size - 1,
+        last: tree.size - 1,
     };
     if path.len() != start.path_len() {
         return false;
     }
-    is_same(&start.climb(true, hash, path, meter), root)
+    is_same(&start.climb(true, hash, path, meter), tree.root)
 }
 
 /// Verifies a path as [`verify_inclusion`] does, and counts its blocks on `meter`: two for each
@@ -52,7 +53,7 @@ pub fn verify_inclusion_counted(
     ensures cost { meter.new ≡ raised meter.old (inclusion_blocks index size path.now) 0 }
 {
     digest_has_output_len();
-    is_included(hash, index, size, path, root, meter)
+    is_included(hash, index, TreeHead { size, root }, path, meter)
 }
 
 /// Whether `path` proves that the leaf hash `hash` is at `index` in the tree of `size` leaves whose

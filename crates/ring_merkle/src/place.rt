@@ -10,6 +10,13 @@ ghost use Rattle.ring_merkle.specs.Walk.{shifted_last, shifted_node, step_of, wa
 use crate::hash::{HASH_LEN, node_hash_counted};
 use ring::cost::Meter;
 
+// A tree by the number of its leaves and its tree hash.
+#[derive(Clone, Copy)]
+pub(crate) struct TreeHead<'a> {
+    pub(crate) size: u64,
+    pub(crate) root: &'a [u8; HASH_LEN],
+}
+
 // A node by its index, and the index of the last node of its level: fn and sn.
 #[derive(Clone, Copy)]
 pub(crate) struct Place {

@@ -1,22 +1,23 @@
 -- SPDX-License-Identifier: ISC
-use Rattle.std.proofs.Common.{◌∙◌, sym, arith}
+use Rattle.std.proofs.Common.{◌^◌, ◌<◌, ◌∙◌, sym, arith, rules}
 use Rattle.std.proofs.lemmas.Bool.{and_left, and_right, le-ltb, ne_eqb}
 use Rattle.ring_merkle.proofs.Rises.{raised-not}
 use Rattle.ring_merkle.proofs.Walks.{leads-length}
 use Rattle.ring_merkle.proofs.inclusion.is_included.Goals as goal
 
-pub returns-then-index-size-clause-cost : goal.returns-then-index-size-clause-cost
-returns-then-index-size-clause-cost c =
-    raised-not _ _ (and_left _ _ (le-ltb c.args.index c.args.size
-    (omega (arith, c.if-index-size.true))))
+pub returns-then-index-tree-clause-cost : goal.returns-then-index-tree-clause-cost
+returns-then-index-tree-clause-cost c =
+    raised-not _ _ (and_left _ _ (le-ltb c.args.index c.args.tree.size
+    (omega (arith, c.if-index-tree.true))))
 
 pub returns-then-path-path_len-clause-exact : goal.returns-then-path-path_len-clause-exact
-returns-then-path-path_len-clause-exact c = (
-  λ t. cc,
-  λ h. absurd (c.if-path-path_len.true
-      (leads-length (omega (arith, c.if-index-size.false)) (omega (arith, c.ranges.size.fits))
-      (record { ends = h.leads }) ∙ sym c.path_len.ensures.count)),
-)
+returns-then-path-path_len-clause-exact c =
+    let fits : c.args.tree.size < 2 ^ 64 = search rules in (
+      λ t. cc,
+      λ h. absurd (c.if-path-path_len.true
+          (leads-length (omega (arith, c.if-index-tree.false)) (omega (arith, fits))
+          (record { ends = h.leads }) ∙ sym c.path_len.ensures.count)),
+    )
 
 pub returns-then-path-path_len-clause-cost : goal.returns-then-path-path_len-clause-cost
 returns-then-path-path_len-clause-cost c =

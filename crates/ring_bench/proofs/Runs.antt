@@ -16,9 +16,11 @@ use Rattle.ring_bench.specs.Cut.{IsFirstCut}
 use Rattle.ring_bench.specs.declared.answers.Status.{Status}
 use Rattle.ring_bench.specs.declared.answers.Status.TheVariants.{Clean, SomeBad}
 use Rattle.ring_bench.specs.declared.answers.BenchError.{BenchError}
+use Rattle.ring_bench.specs.declared.answers.BenchError.TheVariants.{Read}
 use Rattle.ring_bench.specs.Text.{is_line_feed, without_return, lines, ended_lines, replies}
 use Rattle.ring_bench.specs.Text.{answers, is_bad_kind, status_after, status_of}
 use Rattle.ring_bench.specs.Reply.{reply, kind}
+use Rattle.ring_bench.specs.Run.{Runs}
 use Rattle.ring_bench.specs.Session.{Answered, Fed, HasNoLineFeed, Stopped}
 use Rattle.ring_bench.proofs.Texts.{ended_lines-next, lines-next, one_line, some_line}
 
@@ -245,11 +247,15 @@ module _ {known left : Option (List ℕ)} {line : List ℕ} {s : Status} {a b : 
   }
 
   -- the reader failed
-  pub Reached-lines : IfSome known (λ text.
-      (k : ℕ) × (k ≤ ended_lines text) × Appends a b (replies (take k (lines text))))
-  Reached-lines =
-      text-read _ known left r.read r.taken
-      (λ more. Answered-ended (Answered-more r.answered more))
+  pub Reached-failed : (later : Option (List ℕ)) → Runs known later a b (Err Read)
+  Reached-failed later = record {
+    end = tt;
+    written = tt;
+    status = tt;
+    memory = λ e. absurd (cc e);
+    read = λ e. text-read _ known left r.read r.taken
+        (λ more. Answered-ended (Answered-more r.answered more));
+  }
 
   -- it stopped before the open line was answered
   pub Reached-left : 0 < length line → IfSome known (λ text.

@@ -9,4 +9,5 @@ pub mod Line
 pub mod Reply
 pub mod Text
 pub mod Outcome
+pub mod Run
 pub mod Session

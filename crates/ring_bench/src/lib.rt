@@ -11,12 +11,10 @@
 //! ```
 #![tactic(auto)]
 
-ghost use Rattle.std.specs.Prelude.{◌≡◌, ◌++◌, ◌<◌, ◌≤◌, ℕ, OnOk, IfOk, IfErr, OnErr, IfSome};
-ghost use Rattle.std.specs.Prelude.{IsErrOf, length, take};
-ghost use Rattle.std.specs.Io.KnownBytes.{Appends, IsAtEnd};
+ghost use Rattle.std.specs.Prelude.{◌≡◌, ◌++◌, OnOk, IfOk, IfErr, OnErr};
 ghost use Rattle.ring_bench.specs.Reply.{reply, kind};
 ghost use Rattle.ring_bench.specs.Outcome.{exit_status, error_text};
-ghost use Rattle.ring_bench.specs.Text.{lines, ended_lines, replies, answers, status_of};
+ghost use Rattle.ring_bench.specs.Run.{Runs};
 
 use std::alloc::{Allocator, Global};
 use std::io::{ErrorKind, Read, Write};
@@ -67,20 +65,8 @@ pub fn run<R: Read, W: Write>(
     reader: &mut R,
     writer: &mut W,
 ) -> Result<Status, BenchError>
-    // The whole text was read, and its answers were written, and nothing else.
-    ensures end { OnOk result (IsAtEnd (R.remaining reader.new)) }
-    ensures written { OnOk result (IfSome (R.remaining reader.old) (λ text.
-        Appends (W.contents writer.old) (W.contents writer.new) (answers text))) }
-    ensures status { IfOk result (λ status. IfSome (R.remaining reader.old) (λ text.
-        status ≡ status_of (lines text))) }
-    // The answers to the first lines were written, and a line is left: never over the empty text.
-    ensures memory { IsErrOf result BenchError.Memory → IfSome (R.remaining reader.old) (λ text.
-        (k : ℕ) × (k < length (lines text)) × Appends (W.contents writer.old)
-        (W.contents writer.new) (replies (take k (lines text)))) }
-    // The answers to the first lines were written, each of which was ended by a line feed.
-    ensures read { IsErrOf result BenchError.Read → IfSome (R.remaining reader.old) (λ text.
-        (k : ℕ) × (k ≤ ended_lines text) × Appends (W.contents writer.old)
-        (W.contents writer.new) (replies (take k (lines text)))) }
+    ensures { Runs (R.remaining reader.old) (R.remaining reader.new) (W.contents writer.old)
+        (W.contents writer.new) result }
 {
     run_in(alloc, reader, writer)
 }
@@ -92,17 +78,8 @@ pub fn run_in<A: Allocator + Copy, R: Read, W: Write>(
     reader: &mut R,
     writer: &mut W,
 ) -> Result<Status, BenchError>
-    ensures end { OnOk result (IsAtEnd (R.remaining reader.new)) }
-    ensures written { OnOk result (IfSome (R.remaining reader.old) (λ text.
-        Appends (W.contents writer.old) (W.contents writer.new) (answers text))) }
-    ensures status { IfOk result (λ status. IfSome (R.remaining reader.old) (λ text.
-        status ≡ status_of (lines text))) }
-    ensures memory { IsErrOf result BenchError.Memory → IfSome (R.remaining reader.old) (λ text.
-        (k : ℕ) × (k < length (lines text)) × Appends (W.contents writer.old)
-        (W.contents writer.new) (replies (take k (lines text)))) }
-    ensures read { IsErrOf result BenchError.Read → IfSome (R.remaining reader.old) (λ text.
-        (k : ℕ) × (k ≤ ended_lines text) × Appends (W.contents writer.old)
-        (W.contents writer.new) (replies (take k (lines text)))) }
+    ensures { Runs (R.remaining reader.old) (R.remaining reader.new) (W.contents writer.old)
+        (W.contents writer.new) result }
 {
     let mut session = Session::new(alloc);
     let mut buffer = [0u8; BUFFER_LEN];

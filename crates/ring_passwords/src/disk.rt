@@ -237,7 +237,7 @@ impl<R: Abort + AllocGlobal> Steps for Disk<'_, R> {
         told(done)
     }
 
-    fn rename(&mut self, old: &str, new: &str) -> io::Result<()> {
+    fn rename(&mut self, _lock: &u32, old: &str, new: &str) -> io::Result<()> {
         let done = self.folder.rename(self.rt.alloc(), old, new);
         let old = copy(self.rt, old.as_bytes());
         let new = copy(self.rt, new.as_bytes());

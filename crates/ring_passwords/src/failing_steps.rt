@@ -43,6 +43,9 @@ const OLD_ACCESS: Access = Access {
     mode: 0o104_640,
 };
 
+// The lock of the store's file, which stays locked.
+const LOCK: u32 = 0;
+
 // The steps in their order, and how `replace` ends where one of them alone fails.
 const STEPS: [(&str, Outcome); 19] = [
     ("open_folder", Outcome::NotReplaced),
@@ -91,7 +94,7 @@ where
     R: Abort + AllocGlobal,
 {
     let mut disk = Disk::new(rt, folder(rt.alloc(), first_bad, last_bad)?);
-    let outcome = outcome_of(&replace(rt.alloc(), &mut disk, STORE, NEW));
+    let outcome = outcome_of(&replace(rt.alloc(), &mut disk, &LOCK, STORE, NEW));
     Ok((outcome, disk.into_folder()))
 }
 
@@ -135,7 +138,7 @@ fn a_file_is_replaced(rt: HostRuntime) -> Result<(), Fail> {
 #[test]
 fn a_first_file_is_for_its_owner_alone(rt: HostRuntime) -> Result<(), Fail> {
     let mut disk = Disk::new(&rt, Folder::new(rt.alloc(), 0, 0));
-    let outcome = outcome_of(&replace(rt.alloc(), &mut disk, STORE, NEW));
+    let outcome = outcome_of(&replace(rt.alloc(), &mut disk, &LOCK, STORE, NEW));
     let folder = disk.into_folder();
     assert!(rt; outcome == Outcome::Replaced && has(&folder, STORE, NEW));
     assert!(rt; folder.len() == 1 && folder.is_synced);

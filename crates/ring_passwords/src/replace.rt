@@ -19,10 +19,11 @@ use std::io;
 /// The bits of a mode that say who reads, writes and runs a file.
 const PERMISSION_BITS: u32 = 0o777;
 
-/// Puts a new file with this text in the place of a file, whose lock is held.
+/// Puts a new file with this text in the place of a file, whose lock this is.
 pub fn replace<S: Steps>(
     alloc: Global,
     steps: &mut S,
+    lock: &S::Lock,
     path: &str,
     text: &[u8],
 ) -> Result<(), Failure>
@@ -33,7 +34,7 @@ pub fn replace<S: Steps>(
     ensures status { IfErr result (λ failure. status_of failure ≡ 2) }
 {
     let new = make_new(alloc, steps, path)?;
-    match put(steps, &new.file, new.path.as_str(), path, text) {
+    match put(steps, lock, &new.file, new.path.as_str(), path, text) {
         Ok(()) => sync_folder(steps, &new.folder),
         Err(error) => {
             // The old file still stands, and nobody needs the new one.
@@ -102,9 +103,10 @@ fn make_new<S: Steps>(alloc: Global, steps: &mut S, path: &str) -> Result<New<S:
     })
 }
 
-/// Writes a new file to disk, and gives it the name of the old one.
+/// Writes a new file to disk, and gives it the name of the old one, whose lock this is.
 fn put<S: Steps>(
     steps: &mut S,
+    lock: &S::Lock,
     new: &S::File,
     new_path: &str,
     path: &str,
@@ -121,7 +123,7 @@ fn put<S: Steps>(
     steps.write(new, text)?;
     keep_access(steps, path, new)?;
     steps.sync(new)?;
-    steps.rename(new_path, path)
+    steps.rename(lock, new_path, path)
 }
 
 /// Gives a new file the owner, the group and the mode of the file that it replaces, if there is

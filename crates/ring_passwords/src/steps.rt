@@ -105,8 +105,8 @@ pub trait Steps {
         ensures { Notes (events self.old) (events self.new)
             (event.Sync file.now (is_ok result)) };
 
-    /// Gives a file another name, in the place of the file that has it.
-    fn rename(&mut self, old: &str, new: &str) -> io::Result<()>
+    /// Gives a file another name, in the place of the store's file that has it and is locked.
+    fn rename(&mut self, lock: &Self::Lock, old: &str, new: &str) -> io::Result<()>
         ensures { Notes (events self.old) (events self.new)
             (event.Rename old.now new.now (is_ok result)) };
 

@@ -38,7 +38,7 @@ pub fn load<S: Steps>(alloc: Global, steps: &mut S, path: &str) -> Result<Passwo
 pub struct LockedFile<'a, L: Drop> {
     path: &'a str,
     /// Dropping it unlocks the file.
-    _lock: L,
+    lock: L,
 }
 
 /// Locks a file, which need not be there.
@@ -53,7 +53,7 @@ pub fn locked<'a, S: Steps>(
     ensures status { IfErr result (λ failure. status_of failure ≡ 2) }
 {
     let lock = steps.lock_store(path)?;
-    Ok(LockedFile { path, _lock: lock })
+    Ok(LockedFile { path, lock })
 }
 
 /// A new store, if a file is missing now and was missing at the first look; or else why it is not
@@ -106,7 +106,7 @@ impl<L: Drop> LockedFile<'_, L> {
     }
 
     /// Puts a new file with the store's text in the place of the file.
-    pub fn replace<S: Steps>(
+    pub fn replace<S: Steps<Lock = L>>(
         &self,
         alloc: Global,
         steps: &mut S,
@@ -119,6 +119,6 @@ impl<L: Drop> LockedFile<'_, L> {
         ensures status { IfErr result (λ failure. status_of failure ≡ 2) }
     {
         let text = to_text(alloc, store)?;
-        replace(alloc, steps, self.path, &text)
+        replace(alloc, steps, &self.lock, self.path, &text)
     }
 }

@@ -115,7 +115,7 @@ where
         file.sync_all()
     }
 
-    fn rename(&mut self, old: &str, new: &str) -> io::Result<()> {
+    fn rename(&mut self, _lock: &File, old: &str, new: &str) -> io::Result<()> {
         fs::rename(self.rt, old, new)
     }
 

@@ -5,16 +5,16 @@
 Searches the code of every crate but those of tests, outside tests, examples, comments and
 contracts, and tries these rules: a plain form is the one call of its counted form; `ring_core` and
 `ring` make a meter in 22 places, the crates above them in few, and no function that takes one makes
-another; a function that takes a meter calls nothing that runs blocks under another; the calls for C
-and `ring_passwords`, which are handed no meter, call what runs blocks once, and derive by no plain
-form; the functions of key schedules run blocks by as many calls as are listed; the calls for C
-derive in one place each, and only PBKDF2 and the test and the making of a password hash do; a block
-is run once for each block counted, and four side by side for each four; and the rounds of SHA-2 and
-of SHA-1 stand once: what a round alone calls and reads, and the rotations that it alone has, stand
-in one function. Since it finds a call by the function's name, and a method's by the type's too, it
-refuses what hides these: imports under another name, functions as values, aliases of types, and
-macros that call. It then searches as many times again, each time with one body planted that keeps
-its contract, and that a rule has to find. The last line is 'N passed, M failed'.
+another; a function that takes a meter calls nothing that runs blocks under another; the calls for
+C, which are handed no meter, and `ring_passwords` call what runs blocks once, and derive by no
+plain form; the functions of key schedules run blocks by as many calls as are listed; the calls for
+C derive in one place each, and only PBKDF2 and the test and the making of a password hash do; a
+block is run once for each block counted, and four side by side for each four; and the rounds of
+SHA-2 and of SHA-1 stand once: what a round alone calls and reads, and the rotations that it alone
+has, stand in one function. Since it finds a call by the function's name, and a method's by the
+type's too, it refuses what hides these: imports under another name, functions as values, aliases of
+types, and macros that call. It then searches as many times again, each time with one body planted
+that keeps its contract, and that a rule has to find. The last line is 'N passed, M failed'.
 """
 
 import collections
@@ -70,8 +70,9 @@ METERS = {
     "ring_speed": 4,
     "ring_c": 9,
 }
-# How the names of the crates of tests end.
+# How the names of the crates of tests end, and what declares a module of tests.
 OF_TESTS = "_tests"
+OF_TEST = re.compile(r"#\[cfg\(test\)\]\n(?:pub )?mod (\w+);")
 # The libraries whose functions take a meter or make one, where they run blocks.
 METERED = ("ring_core", "ring", "ring_store", "ring_password_hash")
 # What makes its key by a conversion, which is handed no meter: no call of its counted form.
@@ -187,10 +188,13 @@ def sources():
     """The crate and the text of each source file that is no test and no example, by its path."""
     found = {}
     for crate in crates():
-        for path in sorted((ROOT / "crates" / crate / "src").rglob("*.rt")):
+        texts = {path: path.read_text()
+                 for path in sorted((ROOT / "crates" / crate / "src").rglob("*.rt"))}
+        of_tests = {f"{it}.rt" for text in texts.values() for it in OF_TEST.findall(text)}
+        for path, text in texts.items():
             relative = path.relative_to(ROOT)
-            if not {"tests", "tests.rt", "examples.rt"} & set(relative.parts):
-                found[str(relative)] = crate, path.read_text()
+            if not {"tests", "examples.rt", *of_tests} & set(relative.parts):
+                found[str(relative)] = crate, text
     return found
 
 

@@ -176,16 +176,16 @@ PLANTED = {
     "`verify` of the program derives once more by a plain form": (
         NO_PLAIN_DERIVATION,
         "crates/ring_passwords/src/order.rt",
-        "    change::verify(&store, name, &password, &mut Meter::new())\n",
+        "    change::verify(&store, name, &password, meter)\n",
         "    let _ = store.check_password(name, &password);\n"
-        "    change::verify(&store, name, &password, &mut Meter::new())\n",
+        "    change::verify(&store, name, &password, meter)\n",
     ),
     "`verify` of the program derives once more under another meter": (
-        "at most 3 places of ring_passwords make a meter",
+        NO_SECOND,
         "crates/ring_passwords/src/order.rt",
-        "    change::verify(&store, name, &password, &mut Meter::new())\n",
+        "    change::verify(&store, name, &password, meter)\n",
         "    let _ = change::verify(&store, name, &password, &mut Meter::new());\n"
-        "    change::verify(&store, name, &password, &mut Meter::new())\n",
+        "    change::verify(&store, name, &password, meter)\n",
     ),
     "`verify` of a text tests it with no limit first": before(
         ONE_CALL,

@@ -5,8 +5,9 @@ use Rattle.std.proofs.Common.{Result, Ok, Err, ap, inl, inr, refl, subst, sym}
 use Rattle.std.specs.Prelude.{◌≢◌, ◌⊎◌, IfErr, IfOk, IsErrAnd, IsErrOf}
 use Rattle.std.proofs.lemmas.List.{append-nil}
 use Rattle.std.specs.declared.num.NonZeroU32.{NonZeroU32}
+use Rattle.ring.specs.Cost.{Counts, raised}
 use Rattle.ring_store.specs.Store.{admission, asked_iterations, knows, new_store, verdict}
-use Rattle.ring_store.specs.Store.{with_password, without}
+use Rattle.ring_store.specs.Store.{verify_blocks, with_password, without}
 use Rattle.ring_store.specs.declared.error.StoreError.{StoreError}
 use Rattle.ring_store.specs.declared.error.StoreError.TheVariants as refused
 use Rattle.ring_store.specs.declared.store.PasswordStore.{PasswordStore}
@@ -157,11 +158,14 @@ module _ {F : Type 0} where
   -- a password is tested
 
   pub tested : {Z : Type 0} (path name password : List ℕ) (before store : PasswordStore Z)
-      (r : Result (Unit {0}) Failure) {a b c d : Option (List (Event F))}
+      (start end : Counts) (r : Result (Unit {0}) Failure) {a b c d : Option (List (Event F))}
       → Did a b (IsLoaded path before) → Notes b c (ReadPassword (Ok password))
       → Did c d (IsLoaded path store) → r ≡ told (verdict store name password)
-      → Did a d (IsVerified Z path name r)
-  tested path name password before store r first typed last is = record {
+      → (admission name password ≡ Ok tt
+      → end ≡ raised start (verify_blocks store name password) 32)
+      → (admission name password ≢ Ok tt → end ≡ start)
+      → Did a d (IsVerified Z path name start end r)
+  tested path name password before store start end r first typed last is cost untested = record {
     events = ReadStore path (Ok (text_of before)) ∷ ReadPassword (Ok password)
         ∷ ReadStore path (Ok (text_of store)) ∷ [];
     are = inl (record {
@@ -170,6 +174,7 @@ module _ {F : Type 0} where
       store = store;
       is = last.are.0;
       answer = is;
+      cost = record { admitted = cost; refused = untested };
       are = refl;
     });
     does = Does-then (noted first.events first.are.1 first.does)
@@ -195,26 +200,28 @@ module _ {F : Type 0} where
     does = Does-then (noted first.events first.are.1 first.does) (Does-then typed last.does);
   }
 
-  told_why : {Z : Type 0} (path name : List ℕ) (r : Result (Unit {0}) Failure) (failed : Failure)
-      (events : List (Event F)) → IsErrAnd r (λ e. e ≡ failed) → IsNotTested path failed events
-      → IsVerified Z path name r events
-  told_why path name (Ok u) failed events exits why = absurd exits
-  told_why path name (Err e) failed events exits why =
-      inr (subst (λ (e : Failure). IsNotTested path e events) (sym exits) why)
+  told_why : {Z : Type 0} (path name : List ℕ) (meter : Counts) (r : Result (Unit {0}) Failure)
+      (failed : Failure) (events : List (Event F)) → IsErrAnd r (λ e. e ≡ failed)
+      → IsNotTested path failed events → IsVerified Z path name meter meter r events
+  told_why path name meter (Ok u) failed events exits why = absurd exits
+  told_why path name meter (Err e) failed events exits why =
+      inr (refl, subst (λ (e : Failure). IsNotTested path e events) (sym exits) why)
 
-  pub not_verified : {Z : Type 0} (path name : List ℕ) (r : Result (Unit {0}) Failure)
-      (failed : Failure) {a b : Option (List (Event F))} → IsErrAnd r (λ e. e ≡ failed)
-      → Did a b (IsNotTested path failed) → Did a b (IsVerified Z path name r)
-  not_verified {Z = Z} path name r failed exits =
-      Did-map (IsNotTested path failed) (IsVerified Z path name r)
-      (λ events. told_why path name r failed events exits)
+  pub not_verified : {Z : Type 0} (path name : List ℕ) (meter : Counts)
+      (r : Result (Unit {0}) Failure) (failed : Failure) {a b : Option (List (Event F))}
+      → IsErrAnd r (λ e. e ≡ failed) → Did a b (IsNotTested path failed)
+      → Did a b (IsVerified Z path name meter meter r)
+  not_verified {Z = Z} path name meter r failed exits =
+      Did-map (IsNotTested path failed) (IsVerified Z path name meter meter r)
+      (λ events. told_why path name meter r failed events exits)
 
-  pub not_verified_seen : {Z : Type 0} (path name : List ℕ) (r : Result (Unit {0}) Failure)
-      (failed : Failure) {a b : Option (List (Event F))} → IsErrAnd r (λ e. e ≡ failed)
-      → Did a b (IsNotSeen path failed) → Did a b (IsVerified Z path name r)
-  not_verified_seen {Z = Z} path name r failed exits =
-      Did-map (IsNotSeen path failed) (IsVerified Z path name r)
-      (λ events h. told_why path name r failed events exits (inl h))
+  pub not_verified_seen : {Z : Type 0} (path name : List ℕ) (meter : Counts)
+      (r : Result (Unit {0}) Failure) (failed : Failure) {a b : Option (List (Event F))}
+      → IsErrAnd r (λ e. e ≡ failed) → Did a b (IsNotSeen path failed)
+      → Did a b (IsVerified Z path name meter meter r)
+  not_verified_seen {Z = Z} path name meter r failed exits =
+      Did-map (IsNotSeen path failed) (IsVerified Z path name meter meter r)
+      (λ events h. told_why path name meter r failed events exits (inl h))
 
   -- a file is looked at
 

@@ -3,8 +3,9 @@
 use Rattle.std.specs.Prelude.{◌≡◌, ◌≢◌, ◌⊎◌, ◌↔◌, ℕ, Bool, true, false, List, [], ◌∷◌, ◌++◌}
 use Rattle.std.specs.Prelude.{Option, Result, Ok, Err, IsErrAnd, length}
 use Rattle.std.specs.declared.num.NonZeroU32.{NonZeroU32}
+use Rattle.ring.specs.Cost.{Counts, raised}
 use Rattle.ring_store.specs.Store.{admission, asked_iterations, knows, new_store, verdict}
-use Rattle.ring_store.specs.Store.{with_password, without}
+use Rattle.ring_store.specs.Store.{verify_blocks, with_password, without}
 use Rattle.ring_store.specs.declared.store.PasswordStore.{PasswordStore}
 use Rattle.ring_store_text.specs.Text.{IsStore, text_of}
 use Rattle.ring_passwords.specs.Change.{IsCountOfNew, IsNoStore, told, with_given}
@@ -31,15 +32,24 @@ abbrev pub IsNotSeen : {F : Type 0} → (path : List ℕ) → Failure → List (
 IsNotSeen path failed events =
     ((failed ≡ failure.BadName) × (events ≡ [])) ⊎ IsNotLoaded path failed events
 
+-- a test of a password takes the blocks of a credential and a comparison of 32 bytes, also where
+-- the name has no record; one of a name or password that is not admitted takes nothing
+pub record IsCost {Z : Type 0} (store : PasswordStore Z) (name password : List ℕ)
+    (before after : Counts) : Type 0 where
+  pub admitted : admission name password ≡ Ok tt
+      → after ≡ raised before (verify_blocks store name password) 32
+  pub refused : admission name password ≢ Ok tt → after ≡ before
+
 -- a password is tested against the store whose text is read after it, and not against the one that
--- was read before
-pub record IsTested {F : Type 0} (Z : Type 0) (path name : List ℕ) (r : Result (Unit {0}) Failure)
-    (events : List (Event F)) : Type 0 where
+-- was read before; a meter rises by that test
+pub record IsTested {F : Type 0} (Z : Type 0) (path name : List ℕ) (start end : Counts)
+    (r : Result (Unit {0}) Failure) (events : List (Event F)) : Type 0 where
   pub before : List ℕ
   pub password : List ℕ
   pub store : PasswordStore Z
   pub is : IsStore store
   pub answer : r ≡ told (verdict store name password)
+  pub cost : IsCost store name password start end
   pub are : events ≡ ReadStore path (Ok before) ∷ ReadPassword (Ok password)
       ∷ ReadStore path (Ok (text_of store)) ∷ []
 
@@ -52,11 +62,12 @@ IsNotTested path failed events =
     ⊎ ((before password : List ℕ) × (last : List (Event _)) × IsNotLoaded path failed last
     × (events ≡ ReadStore path (Ok before) ∷ ReadPassword (Ok password) ∷ last))
 
--- the password is tested, or it is told why not
-abbrev pub IsVerified : {F : Type 0} → (Z : Type 0) → (path name : List ℕ)
+-- the password is tested, or it is told why not, and no meter rises
+abbrev pub IsVerified : {F : Type 0} → (Z : Type 0) → (path name : List ℕ) → (start end : Counts)
     → Result (Unit {0}) Failure → List (Event F) → Type 0
-IsVerified Z path name r events =
-    IsTested Z path name r events ⊎ IsErrAnd r (λ failed. IsNotTested path failed events)
+IsVerified Z path name start end r events =
+    IsTested Z path name start end r events
+    ⊎ ((end ≡ start) × IsErrAnd r (λ failed. IsNotTested path failed events))
 
 -- the first look, before the password is read: there is no file, or a store's that has no other
 -- name

@@ -160,7 +160,9 @@ where
             }
             Ok(())
         }
-        Action::Verify(name) => verify_in_file(alloc, &mut system, path, name.as_bytes()),
+        Action::Verify(name) => {
+            verify_in_file(alloc, &mut system, path, name.as_bytes(), &mut Meter::new())
+        }
         Action::Remove(name) => remove_from_file(alloc, &mut system, path, name.as_bytes()),
         Action::List => list(rt, path),
     }

@@ -40,15 +40,18 @@ fn look<S: Steps>(
     load(alloc, steps, path)
 }
 
-/// Tests a name's password against a file, as it is once the password is read.
+/// Tests a name's password against a file, as it is once the password is read. `meter` counts the
+/// blocks and the compared pairs of bytes: as many for a name without a record as for a record of
+/// the store's iterations, and none where the password isn't tested.
 pub fn verify_in_file<S: Steps>(
     alloc: Global,
     steps: &mut S,
     path: &str,
     name: &[u8],
+    meter: &mut Meter,
 ) -> Result<(), Failure>
     ensures tested { Did (S.events steps.old) (S.events steps.new)
-        (IsVerified Global path.now name.now result) }
+        (IsVerified Global path.now name.now meter.old meter.new result) }
     ensures bad_name { is_name name.now ≡ false → IsErrOf result Failure.BadName
         × (S.events steps.new ≡ S.events steps.old) }
     ensures status { IfErr result (λ failure. (status_of failure ≡ 2)
@@ -57,7 +60,7 @@ pub fn verify_in_file<S: Steps>(
     look(alloc, steps, path, name)?;
     let password = steps.password()?;
     let store = load(alloc, steps, path)?;
-    change::verify(&store, name, &password, &mut Meter::new())
+    change::verify(&store, name, &password, meter)
 }
 
 /// That a file is missing, if that is why it is not read; or else why.

@@ -7,6 +7,7 @@ use crate::failure::Failure;
 use crate::memory::{Content, Folder, Meanwhile, STORE, TYPED};
 use crate::order::{set_in_file, verify_in_file};
 use crate::steps::Access;
+use ring::cost::Meter;
 use ring_store::PasswordStore;
 use ring_store_text::{from_text, to_text};
 use std::alloc::Global;
@@ -71,7 +72,8 @@ fn run_set<R: Abort + AllocGlobal>(
 
 // What `verify` answers for a name.
 fn run_verify<R: Abort + AllocGlobal>(rt: &R, folder: Folder) -> Result<(), Failure> {
-    verify_in_file(rt.alloc(), &mut Disk::new(rt, folder), STORE, NAME)
+    let mut disk = Disk::new(rt, folder);
+    verify_in_file(rt.alloc(), &mut disk, STORE, NAME, &mut Meter::new())
 }
 
 // Whether the file of the store has a name with this password.

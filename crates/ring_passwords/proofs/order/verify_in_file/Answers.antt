@@ -7,27 +7,30 @@ use Rattle.ring_passwords.proofs.order.verify_in_file.Goals as goal
 
 pub returns-in_err-look-clause-tested : goal.returns-in_err-look-clause-tested
 returns-in_err-look-clause-tested g c =
-    not_verified_seen c.args.path.now c.args.name.now c.from_residual.result _
+    not_verified_seen c.args.path.now c.args.name.now c.args.meter.now c.from_residual.result _
     c.from_residual.ensures.1 c.in_err-look.ensures.refused
 
 pub returns-in_err-password-clause-tested : goal.returns-in_err-password-clause-tested
 returns-in_err-password-clause-tested g c =
-    not_verified c.args.path.now c.args.name.now c.from_residual-in_err-password.result _
-    c.from_residual-in_err-password.ensures.1
+    not_verified c.args.path.now c.args.name.now c.args.meter.now
+    c.from_residual-in_err-password.result _ c.from_residual-in_err-password.ensures.1
     (not_typed c.args.path.now _ _ c.in_ok-look.ensures.ok c.in_err-password.ensures.noted)
 
 pub returns-in_err-store-clause-tested : goal.returns-in_err-store-clause-tested
 returns-in_err-store-clause-tested g c =
-    not_verified c.args.path.now c.args.name.now c.from_residual-in_err-store.result _
-    c.from_residual-in_err-store.ensures.1
+    not_verified c.args.path.now c.args.name.now c.args.meter.now
+    c.from_residual-in_err-store.result _ c.from_residual-in_err-store.ensures.1
     (not_loaded_later c.args.path.now _ _ _ c.in_ok-look.ensures.ok
     c.in_ok-password.ensures.noted c.in_err-store.ensures.refused)
 
 pub returns-clause-tested : goal.returns-clause-tested
 returns-clause-tested g c =
     tested c.args.path.now c.args.name.now c.in_ok-password.password.items _
-    c.in_ok-store.store c.verify.result c.in_ok-look.ensures.ok c.in_ok-password.ensures.noted
-    c.in_ok-store.ensures.ok (rw c.deref.ensures.value at c.verify.ensures.refused)
+    c.in_ok-store.store c.args.meter.now c.verify.new.meter c.verify.result
+    c.in_ok-look.ensures.ok c.in_ok-password.ensures.noted c.in_ok-store.ensures.ok
+    (rw c.deref.ensures.value at c.verify.ensures.refused)
+    (rw c.deref.ensures.value at c.verify.ensures.cost)
+    (rw c.deref.ensures.value at c.verify.ensures.cost_untested)
 
 pub returns-in_err-look-clause-bad_name : goal.returns-in_err-look-clause-bad_name
 returns-in_err-look-clause-bad_name g c = λ bad.

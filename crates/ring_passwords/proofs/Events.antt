@@ -130,23 +130,3 @@ module _ {F : Type 0} where
       };
       does = Does-then first.does notes;
     }
-
-    pub Did-stops_first : {a b : Option (List (Event F))} {e : Event F} → Notes a b e → P e
-        → IsRefused e → Did a b (IsStopped P)
-    Did-stops_first {a = a} notes kind refused = Did-stops (Did-nothing a) notes kind refused
-
-    pub Did-stops_later : {a b c : Option (List (Event F))} → Did a b (All P)
-        → Did b c (IsStopped P) → Did a c (IsStopped P)
-    Did-stops_later first next = record {
-      events = first.events ++ next.events;
-      are = record {
-        front = first.events ++ next.are.front;
-        last = next.are.last;
-        done = All-append P first.events next.are.front first.are next.are.done;
-        kind = next.are.kind;
-        refused = next.are.refused;
-        are = ap (λ es. first.events ++ es) next.are.are
-            ∙ sym (append_assoc first.events next.are.front (next.are.last ∷ []));
-      };
-      does = Does-then first.does next.does;
-    }

@@ -1,9 +1,9 @@
 -- SPDX-License-Identifier: ISC
 -- The steps that keep a store's file as it is.
 use Rattle.std.proofs.Common.{◌≡◌, ◌++◌, ℕ, Bool, true, false, List, [], ◌∷◌, Option, Some, None}
-use Rattle.std.proofs.Common.{Result, Ok, ap, inl, inr, refl}
+use Rattle.std.proofs.Common.{Result, Ok, inl, inr, refl}
 use Rattle.std.proofs.lemmas.List.Elements.{All-append, All-cons, All-nil, All-same, All-weaker}
-use Rattle.std.specs.Prelude.{All, IfErr}
+use Rattle.std.specs.Prelude.{All, IfErr, bit_and}
 use Rattle.std.specs.declared.num.NonZeroU32.{NonZeroU32}
 use Rattle.ring_store.specs.declared.store.PasswordStore.{PasswordStore}
 use Rattle.ring_store_text.specs.Text.{text_of}
@@ -18,9 +18,11 @@ use Rattle.ring_passwords.specs.Order.{IsBegun, IsFirstLook, IsNotBegun, IsNotGo
 use Rattle.ring_passwords.specs.Order.{IsNotLooked, IsNotOpened, IsNotRemoved, IsNotSeen}
 use Rattle.ring_passwords.specs.Order.{IsNotSet, IsNotTaken, IsOpened, IsTaken}
 use Rattle.ring_passwords.specs.Replace.{IsBefore, IsKeeping, IsKept, IsMade}
-use Rattle.ring_passwords.specs.Replace.{IsNewPath, IsNotReplaced, IsStopped, IsWithNew}
+use Rattle.ring_passwords.specs.Replace.{IsAccess, IsAccessGiven, IsNewPath, IsNoAccess, IsNotPut}
+use Rattle.ring_passwords.specs.Replace.{IsNotReplaced, IsOwnerGiven, IsStopped}
 use Rattle.ring_passwords.specs.declared.failure.Failure.{Failure}
 use Rattle.ring_passwords.specs.declared.failure.Step.TheVariants as step
+use Rattle.ring_passwords.specs.declared.steps.Access.{Access}
 use Rattle.ring_passwords.proofs.Events.{Did-map, if_err_weaker}
 use Rattle.ring_passwords.proofs.Replaced.{swept_before}
 
@@ -47,28 +49,6 @@ module _ {F : Type 0} (path : List ℕ) where
   before_keeps new (LockStore name done) before = absurd before
   before_keeps new (ReadToReplace name text) before = absurd before
 
-  with_new_keeps : (new : F) (e : Event F) → IsWithNew new e → IsKeeping path (Some new) e
-  with_new_keeps new (OpenFolder folder found) with_new = absurd with_new
-  with_new_keeps new (ListNames folder done) with_new = absurd with_new
-  with_new_keeps new (NextName name) with_new = absurd with_new
-  with_new_keeps new (RemoveUnlocked name done) with_new = absurd with_new
-  with_new_keeps new (Random bytes done) with_new = absurd with_new
-  with_new_keeps new (Create new_path made) with_new = absurd with_new
-  with_new_keeps new (Lock file done) is = tt
-  with_new_keeps new (SetMode file mode done) is = ap (λ f. Some f) is
-  with_new_keeps new (SetOwner file user group done) is = ap (λ f. Some f) is
-  with_new_keeps new (Write file bytes done) is = ap (λ f. Some f) is
-  with_new_keeps new (Look name found) is = tt
-  with_new_keeps new (Sync file done) is = tt
-  with_new_keeps new (Rename from to true) with_new = absurd with_new
-  with_new_keeps new (Rename from to false) with_new = refl
-  with_new_keeps new (Remove name done) with_new = absurd with_new
-  with_new_keeps new (ReadPassword password) with_new = absurd with_new
-  with_new_keeps new (ReadStore name text) with_new = absurd with_new
-  with_new_keeps new (LookForLinks name single) with_new = absurd with_new
-  with_new_keeps new (LockStore name done) with_new = absurd with_new
-  with_new_keeps new (ReadToReplace name text) with_new = absurd with_new
-
   stopped_all : (P : Event F → Type 0) (events : List (Event F)) → IsStopped P events
       → All P events
   stopped_all P events stopped = All-same P events _ stopped.are
@@ -78,11 +58,6 @@ module _ {F : Type 0} (path : List ℕ) where
   keeps_before : (new : Option F) (events : List (Event F)) → All (IsBefore path) events
       → All (IsKeeping path new) events
   keeps_before new = All-weaker (IsBefore path) (IsKeeping path new) (before_keeps new)
-
-  keeps_with_new : (new : F) (events : List (Event F)) → All (IsWithNew new) events
-      → All (IsKeeping path (Some new)) events
-  keeps_with_new new =
-      All-weaker (IsWithNew new) (IsKeeping path (Some new)) (with_new_keeps new)
 
   keeps_made : (folder : F) (new_path : List ℕ) (new : F) (events : List (Event F))
       → IsMade path folder new_path new events → All (IsKeeping path (Some new)) events
@@ -100,31 +75,6 @@ module _ {F : Type 0} (path : List ℕ) where
       (All-cons P drawn (created ∷ []) tt
       (All-cons P created [] (named, refl) (All-nil P))))
 
-  -- unless the folder alone is not synced
-  not_replaced_keeps : (text : List ℕ) (failed : Failure) (events : List (Event F))
-      → ¬ IsOfSystem step.SyncFolder failed → IsNotReplaced path text failed events
-      → IsKept path events
-  not_replaced_keeps text failed events other (inl (inl (is, before))) =
-      (None, keeps_before None events before)
-  not_replaced_keeps text failed events other (inl (inr (is, stopped))) =
-      (None, keeps_before None events (stopped_all (IsBefore path) events stopped))
-  not_replaced_keeps text failed events other (inr (inl (is, undone))) =
-      let new = undone.new in
-      let made = undone.is_made in
-      let P = IsKeeping path (Some new) in
-      let named : IsNewPath path undone.new_path = (made.random, made.len, made.named) in
-      let gone : Event F = Remove undone.new_path undone.removed in (
-        Some new,
-        All-same P events (undone.made ++ undone.tried ++ gone ∷ []) undone.are
-            (All-append P (undone.made ++ undone.tried) (gone ∷ [])
-            (All-append P undone.made undone.tried
-            (keeps_made undone.folder undone.new_path new undone.made made)
-            (keeps_with_new new undone.tried
-            (stopped_all (IsWithNew new) undone.tried undone.stopped)))
-            (All-cons P gone [] named (All-nil P))),
-      )
-  not_replaced_keeps text failed events other (inr (inr (is, replaced))) = absurd (other is)
-
   -- what reads the file keeps it
 
   module _ (new : Option F) where
@@ -139,9 +89,16 @@ module _ {F : Type 0} (path : List ℕ) where
         → All (IsKeeping path new) xs
     same {xs = xs} {ys = ys} = All-same (IsKeeping path new) xs ys
 
+    keeps_then : (d e : Event F) (rest : List (Event F)) → IsKeeping path new d
+        → IsKeeping path new e → All (IsKeeping path new) rest
+        → All (IsKeeping path new) (d ∷ e ∷ rest)
+    keeps_then d e rest first second last =
+        All-cons (IsKeeping path new) d (e ∷ rest) first
+        (All-cons (IsKeeping path new) e rest second last)
+
     keeps_not_loaded : (failed : Failure) (events : List (Event F))
         → IsNotLoaded path failed events → All (IsKeeping path new) events
-    keeps_not_loaded failed events (inl are) = same are (one _ tt)
+    keeps_not_loaded failed events (inl (why, are)) = same are (one _ tt)
     keeps_not_loaded failed events (inr (text, why, are)) = same are (one _ tt)
 
     keeps_not_seen : (failed : Failure) (events : List (Event F)) → IsNotSeen path failed events
@@ -152,7 +109,7 @@ module _ {F : Type 0} (path : List ℕ) where
     keeps_not_looked : (failed : Failure) (events : List (Event F))
         → IsNotLooked path failed events → All (IsKeeping path new) events
     keeps_not_looked failed events (inl (other, seen)) = keeps_not_seen failed events seen
-    keeps_not_looked failed events (inr (text, are)) = same are (two _ _ tt tt)
+    keeps_not_looked failed events (inr (why, text, are)) = same are (two _ _ tt tt)
 
     keeps_first_look : (missing : Bool) (events : List (Event F))
         → IsFirstLook path missing events → All (IsKeeping path new) events
@@ -167,17 +124,10 @@ module _ {F : Type 0} (path : List ℕ) where
 
     keeps_not_taken : (missing : Bool) (failed : Failure) (events : List (Event F))
         → IsNotTaken path missing failed events → All (IsKeeping path new) events
-    keeps_not_taken missing failed events (inl (other, are)) = same are (one _ tt)
+    keeps_not_taken missing failed events (inl (why, other, are)) = same are (one _ tt)
     keeps_not_taken missing failed events (inr (inl (text, why, are))) = same are (one _ tt)
     keeps_not_taken missing failed events (inr (inr (missed, why, salt, are))) =
         same are (two _ _ tt tt)
-
-    keeps_then : (d e : Event F) (rest : List (Event F)) → IsKeeping path new d
-        → IsKeeping path new e → All (IsKeeping path new) rest
-        → All (IsKeeping path new) (d ∷ e ∷ rest)
-    keeps_then d e rest first second last =
-        All-cons (IsKeeping path new) d (e ∷ rest) first
-        (All-cons (IsKeeping path new) e rest second last)
 
     keeps_not_gone_on : (missing : Bool) (failed : Failure) (events : List (Event F))
         → IsNotGoneOn path missing failed events → All (IsKeeping path new) events
@@ -211,10 +161,101 @@ module _ {F : Type 0} (path : List ℕ) where
 
     keeps_not_opened : (failed : Failure) (events : List (Event F))
         → IsNotOpened path failed events → All (IsKeeping path new) events
-    keeps_not_opened failed events (inl are) = same are (one _ tt)
+    keeps_not_opened failed events (inl (why, are)) = same are (one _ tt)
     keeps_not_opened failed events (inr (inl (why, are))) = same are (two _ _ tt tt)
     keeps_not_opened failed events (inr (inr (taken, is, are))) =
         same are (keeps_then _ _ taken tt tt (keeps_not_taken false failed taken is))
+
+  -- what is done with a new file keeps the old one
+
+  keeps_owner : (new : F) (old : Access) (given : Bool) (events : List (Event F))
+      → IsOwnerGiven new old given events → All (IsKeeping path (Some new)) events
+  keeps_owner new old true events (inl are) = same (Some new) are (one (Some new) _ refl)
+  keeps_owner new old true events (inr are) = same (Some new) are (two (Some new) _ _ refl refl)
+  keeps_owner new old false events are = same (Some new) are (two (Some new) _ _ refl refl)
+
+  keeps_mode : (new : F) (old : Access) (done : Bool) (owner events : List (Event F))
+      → IsOwnerGiven new old true owner
+      → events ≡ owner ++ SetMode new (bit_and old.mode 0o777) done ∷ []
+      → All (IsKeeping path (Some new)) events
+  keeps_mode new old done owner events given are =
+      same (Some new) are (All-append (IsKeeping path (Some new)) owner _
+      (keeps_owner new old true owner given) (one (Some new) _ refl))
+
+  keeps_given : (new : F) (old : Access) (events : List (Event F))
+      → IsAccessGiven new old events → All (IsKeeping path (Some new)) events
+  keeps_given new old events (inl refused) = keeps_owner new old false events refused
+  keeps_given new old events (inr (owner, given, are)) =
+      keeps_mode new old true owner events given are
+
+  keeps_access : (new : F) (events : List (Event F)) → IsAccess path new events
+      → All (IsKeeping path (Some new)) events
+  keeps_access new events (inl are) = same (Some new) are (one (Some new) _ tt)
+  keeps_access new events (inr (old, given, is, are)) =
+      same (Some new) are (All-cons (IsKeeping path (Some new)) _ given tt
+      (keeps_given new old given is))
+
+  keeps_no_access : (new : F) (events : List (Event F)) → IsNoAccess path new events
+      → All (IsKeeping path (Some new)) events
+  keeps_no_access new events (inl are) = same (Some new) are (one (Some new) _ tt)
+  keeps_no_access new events (inr (old, given, (owner, is_owner, is), are)) =
+      same (Some new) are (All-cons (IsKeeping path (Some new)) _ given tt
+      (keeps_mode new old false owner given is_owner is))
+
+  keeps_written : (new : F) (text : List ℕ) (done : Bool) (rest : List (Event F))
+      → All (IsKeeping path (Some new)) rest
+      → All (IsKeeping path (Some new))
+      (Lock new true ∷ SetMode new 0o600 true ∷ Write new text done ∷ rest)
+  keeps_written new text done rest last =
+      keeps_then (Some new) _ _ (Write new text done ∷ rest) tt refl
+      (All-cons (IsKeeping path (Some new)) (Write new text done) rest refl last)
+
+  keeps_not_put : (new_path : List ℕ) (new : F) (text : List ℕ) (events : List (Event F))
+      → IsNotPut path new_path new text events → All (IsKeeping path (Some new)) events
+  keeps_not_put new_path new text events (inl are) =
+      same (Some new) are (one (Some new) _ tt)
+  keeps_not_put new_path new text events (inr (inl are)) =
+      same (Some new) are (two (Some new) _ _ tt refl)
+  keeps_not_put new_path new text events (inr (inr (inl are))) =
+      same (Some new) are (keeps_written new text false [] (All-nil (IsKeeping path (Some new))))
+  keeps_not_put new_path new text events (inr (inr (inr (inl (access, is, are))))) =
+      same (Some new) are (keeps_written new text true access (keeps_no_access new access is))
+  keeps_not_put new_path new text events (inr (inr (inr (inr (inl (access, is, are)))))) =
+      same (Some new) are (All-append (IsKeeping path (Some new))
+      (Lock new true ∷ SetMode new 0o600 true ∷ Write new text true ∷ access)
+      (Sync new false ∷ [])
+      (keeps_written new text true access (keeps_access new access is))
+      (one (Some new) (Sync new false) tt))
+  keeps_not_put new_path new text events (inr (inr (inr (inr (inr (access, is, are)))))) =
+      same (Some new) are (All-append (IsKeeping path (Some new))
+      (Lock new true ∷ SetMode new 0o600 true ∷ Write new text true ∷ access)
+      (Sync new true ∷ Rename new_path path false ∷ [])
+      (keeps_written new text true access (keeps_access new access is))
+      (two (Some new) (Sync new true) (Rename new_path path false) tt refl))
+
+  -- unless the folder alone is not synced
+  not_replaced_keeps : (text : List ℕ) (failed : Failure) (events : List (Event F))
+      → ¬ IsOfSystem step.SyncFolder failed → IsNotReplaced path text failed events
+      → IsKept path events
+  not_replaced_keeps text failed events other (inl (inl (is, before))) =
+      (None, keeps_before None events before)
+  not_replaced_keeps text failed events other (inl (inr (is, stopped))) =
+      (None, keeps_before None events (stopped_all (IsBefore path) events stopped))
+  not_replaced_keeps text failed events other (inr (inl (is, undone))) =
+      let new = undone.new in
+      let made = undone.is_made in
+      let P = IsKeeping path (Some new) in
+      let named : IsNewPath path undone.new_path = (made.random, made.len, made.named) in
+      let gone : Event F = Remove undone.new_path undone.removed in (
+        Some new,
+        All-same P events (undone.made ++ undone.tried ++ gone ∷ []) undone.are
+            (All-append P (undone.made ++ undone.tried) (gone ∷ [])
+            (All-append P undone.made undone.tried
+            (keeps_made undone.folder undone.new_path new undone.made made)
+            (keeps_not_put undone.new_path new text undone.tried undone.is_not_put))
+            (All-cons P gone [] named (All-nil P))),
+      )
+  not_replaced_keeps text failed events other (inr (inr (is, replaced))) = absurd (other is)
 
   module _ {Z : Type 0} (name : List ℕ) where
     not_set_keeps : (given : Option NonZeroU32) (failed : Failure) (events : List (Event F))

@@ -6,3 +6,4 @@ mod Marks
 mod Ordered
 mod Replaced
 mod Temporaries
+mod Unsynced

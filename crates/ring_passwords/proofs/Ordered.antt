@@ -15,7 +15,8 @@ use Rattle.ring_store_text.specs.Text.{IsStore, text_of}
 use Rattle.ring_passwords.specs.Change.{IsCountOfNew, IsNoStore, told, with_given}
 use Rattle.ring_passwords.specs.Event.{Event, Did, Does, Notes, LockStore, LookForLinks}
 use Rattle.ring_passwords.specs.Event.{ReadPassword, ReadStore, ReadToReplace}
-use Rattle.ring_passwords.specs.Failure.{IsNoPassword, IsNotLocked, IsOfSystem}
+use Rattle.ring_passwords.specs.Failure.{IsNoPassword, IsNotLocked, IsNotRead, IsNotReplaceable}
+use Rattle.ring_passwords.specs.Failure.{IsOfSystem}
 use Rattle.ring_passwords.specs.Order.{IsBegun, IsFirstLook, IsGone, IsLoaded}
 use Rattle.ring_passwords.specs.Order.{IsNotBegun, IsNotGoneOn, IsNotLoaded, IsNotLooked}
 use Rattle.ring_passwords.specs.Order.{IsNotOpened, IsNotRemoved, IsNotSeen, IsNotSet, IsNotTaken}
@@ -89,8 +90,8 @@ module _ {F : Type 0} (path : List ℕ) where
       → ¬ IsVanished path events
   refused_at_once failed events (inl (name, none)) (inl (text, is)) = absurd cc
   refused_at_once failed events (inl (name, none)) (inr (text, password, is)) = absurd cc
-  refused_at_once failed events (inr (inl one)) (inl (text, is)) = absurd cc
-  refused_at_once failed events (inr (inl one)) (inr (text, password, is)) = absurd cc
+  refused_at_once failed events (inr (inl (why, one))) (inl (text, is)) = absurd cc
+  refused_at_once failed events (inr (inl (why, one))) (inr (text, password, is)) = absurd cc
   refused_at_once failed events (inr (inr (read, why, one))) (inl (text, is)) = absurd cc
   refused_at_once failed events (inr (inr (read, why, one))) (inr (text, password, is)) =
       absurd cc
@@ -136,8 +137,9 @@ module _ {F : Type 0} where
   }
 
   pub not_read : (path : List ℕ) (failed : Failure) {a b : Option (List (Event F))}
-      → Notes a b (ReadStore path (Err failed)) → Did a b (IsNotLoaded path failed)
-  not_read path failed notes = record { events = _; are = inl refl; does = notes }
+      → IsNotRead failed → Notes a b (ReadStore path (Err failed))
+      → Did a b (IsNotLoaded path failed)
+  not_read path failed why notes = record { events = _; are = inl (why, refl); does = notes }
 
   pub no_store : (path text : List ℕ) (failed : Failure) {a b : Option (List (Event F))}
       → Notes a b (ReadStore path (Ok text)) → IsNoStore text failed
@@ -182,11 +184,11 @@ module _ {F : Type 0} where
   }
 
   pub not_typed : {Z : Type 0} (path : List ℕ) (before : PasswordStore Z) (failed : Failure)
-      {a b c : Option (List (Event F))} → Did a b (IsLoaded path before)
+      {a b c : Option (List (Event F))} → IsNoPassword failed → Did a b (IsLoaded path before)
       → Notes b c (ReadPassword (Err failed)) → Did a c (IsNotTested path failed)
-  not_typed path before failed first typed = record {
+  not_typed path before failed why first typed = record {
     events = ReadStore path (Ok (text_of before)) ∷ ReadPassword (Err failed) ∷ [];
-    are = inr (inl (text_of before, refl));
+    are = inr (inl (why, text_of before, refl));
     does = Does-then (noted first.events first.are.1 first.does) typed;
   }
 
@@ -228,7 +230,7 @@ module _ {F : Type 0} where
   seen_missing : (path : List ℕ) (failed : Failure) (events : List (Event F))
       → failed ≡ failure.NoFile → IsNotSeen path failed events → IsFirstLook path true events
   seen_missing path failed events missing (inl (is, none)) = absurd cc
-  seen_missing path failed events missing (inr (inl one)) =
+  seen_missing path failed events missing (inr (inl (why, one))) =
       one ∙ ap (λ (e : Failure). ReadStore path (Err e) ∷ []) missing
   seen_missing path failed events missing (inr (inr (text, why, one))) =
       absurd (no_store_other text failed why missing)
@@ -262,11 +264,11 @@ module _ {F : Type 0} where
       Did-map (IsNotSeen path failed) (IsNotLooked path failed) (λ events h. inl (other, h))
 
   pub not_looked_links : {Z : Type 0} (path : List ℕ) (store : PasswordStore Z) (failed : Failure)
-      {a b c : Option (List (Event F))} → Did a b (IsLoaded path store)
+      {a b c : Option (List (Event F))} → IsNotReplaceable failed → Did a b (IsLoaded path store)
       → Notes b c (LookForLinks path (Err failed)) → Did a c (IsNotLooked path failed)
-  not_looked_links path store failed first links = record {
+  not_looked_links path store failed why first links = record {
     events = ReadStore path (Ok (text_of store)) ∷ LookForLinks path (Err failed) ∷ [];
-    are = inr (text_of store, refl);
+    are = inr (why, text_of store, refl);
     does = Does-then (noted first.events first.are.1 first.does) links;
   }
 
@@ -368,10 +370,11 @@ module _ {F : Type 0} where
       }
 
   pub not_taken_read : (path : List ℕ) (missing : Bool) (failed : Failure)
-      {a b : Option (List (Event F))} → ¬ ((missing ≡ true) × (failed ≡ failure.NoFile))
+      {a b : Option (List (Event F))} → IsNotReplaceable failed
+      → ¬ ((missing ≡ true) × (failed ≡ failure.NoFile))
       → Notes a b (ReadToReplace path (Err failed)) → Did a b (IsNotTaken path missing failed)
-  not_taken_read path missing failed other notes =
-      record { events = _; are = inl (other, refl); does = notes }
+  not_taken_read path missing failed why other notes =
+      record { events = _; are = inl (why, other, refl); does = notes }
 
   pub not_taken_text : (path text : List ℕ) (missing : Bool) (failed : Failure)
       {a b : Option (List (Event F))} → IsNoStore text failed
@@ -391,19 +394,20 @@ module _ {F : Type 0} where
   }
 
   pub not_taken : (path : List ℕ) (missing : Bool) (failed other : Failure)
-      {a b c : Option (List (Event F))} → Notes a b (ReadToReplace path (Err failed))
+      {a b c : Option (List (Event F))} → IsNotReplaceable failed
+      → Notes a b (ReadToReplace path (Err failed))
       → ((other ≡ failed) × (¬ ((missing ≡ true) × (failed ≡ failure.NoFile))) × (c ≡ b))
       ⊎ ((missing ≡ true) × (failed ≡ failure.NoFile) × IsNotDrawn b c other)
       → Did a c (IsNotTaken path missing other)
-  not_taken path missing failed other notes (inl (is, unmade, same)) =
+  not_taken path missing failed other why notes (inl (is, unmade, same)) =
       Did-still (IsNotTaken path missing other)
-      (rw is (not_taken_read path missing failed unmade notes)) same
-  not_taken path missing failed other notes (inr (missed, none, drawn)) =
+      (rw is (not_taken_read path missing failed why unmade notes)) same
+  not_taken path missing failed other why notes (inr (missed, none, drawn)) =
       not_taken_salt path missing failed other missed none notes drawn
 
   not_taken_other : (path : List ℕ) (failed : Failure) (events : List (Event F))
       → IsNotTaken path true failed events → failed ≢ failure.NoFile
-  not_taken_other path failed events (inl (other, is)) = λ same. other (refl, same)
+  not_taken_other path failed events (inl (why, other, is)) = λ same. other (refl, same)
   not_taken_other path failed events (inr (inl (text, why, is))) = no_store_other text failed why
   not_taken_other path failed events (inr (inr (missed, why, salt, is))) = salt_other failed why
 
@@ -419,7 +423,7 @@ module _ {F : Type 0} where
       → IsNotTaken path false failed events
       → IsGone path failed (ReadStore path (Ok read) ∷ LookForLinks path (Ok tt)
       ∷ ReadPassword (Ok typed) ∷ LockStore path true ∷ events)
-  gone_are path read typed failed events (inl (other, are)) = (
+  gone_are path read typed failed events (inl (why, other, are)) = (
     λ same. inr (
       read,
       typed,
@@ -440,7 +444,7 @@ module _ {F : Type 0} where
       → IsNotLooked path failed events → IsGone path failed events
   gone_looked path failed events (inl (other, seen)) =
       not_gone path failed events other (refused_at_once path failed events seen)
-  gone_looked path failed events (inr (text, are)) = rw are (links_are path text failed)
+  gone_looked path failed events (inr (why, text, are)) = rw are (links_are path text failed)
 
   not_gone_on_other : (path : List ℕ) (failed : Failure) (last : List (Event F))
       → IsNotGoneOn path true failed last → failed ≢ failure.NoFile
@@ -648,9 +652,10 @@ module _ {F : Type 0} where
   }
 
   pub not_opened_links : (path : List ℕ) (failed : Failure) {a b : Option (List (Event F))}
-      → Notes a b (LookForLinks path (Err failed)) → Did a b (IsNotOpened path failed)
-  not_opened_links path failed single =
-      record { events = _; are = inl refl; does = single }
+      → IsNotReplaceable failed → Notes a b (LookForLinks path (Err failed))
+      → Did a b (IsNotOpened path failed)
+  not_opened_links path failed why single =
+      record { events = _; are = inl (why, refl); does = single }
 
   pub not_opened_lock : (path : List ℕ) (failed : Failure) {a b c : Option (List (Event F))}
       → IsNotLocked failed → Notes a b (LookForLinks path (Ok tt))

@@ -17,7 +17,8 @@ use Rattle.ring_passwords.specs.Replace.{AreVisited, IsAccess, IsAccessGiven, Is
 use Rattle.ring_passwords.specs.Replace.{IsLookedAt, IsMade, IsNotMade, IsNotReplaced}
 use Rattle.ring_passwords.specs.Replace.{IsReadLookedAt}
 use Rattle.ring_passwords.specs.Replace.{IsOwnerGiven, IsPut, IsReplaced, IsStopped, IsSwept}
-use Rattle.ring_passwords.specs.Replace.{IsVisit, IsWithNew, IsRefused, granted}
+use Rattle.ring_passwords.specs.Replace.{IsModeRefused, IsNoAccess, IsNotPut, IsRefused, IsVisit}
+use Rattle.ring_passwords.specs.Replace.{granted}
 use Rattle.ring_passwords.specs.Temporary.{temporary_of}
 use Rattle.ring_passwords.specs.declared.failure.Failure.{Failure}
 use Rattle.ring_passwords.specs.declared.failure.Failure.TheVariants as failure
@@ -32,45 +33,6 @@ granted_is (Ok v) value same = cc
 granted_is (Err e) value same = absurd cc
 
 module _ {F : Type 0} where
-  two : (P : Event F → Type 0) {d e : Event F} → P d → P e → All P (d ∷ e ∷ [])
-  two P {d = d} {e = e} first second =
-      All-cons P d (e ∷ []) first (All-cons P e [] second (All-nil P))
-
-  owner_with_new : (new : F) (old : Access) (given : Bool) (events : List (Event F))
-      → IsOwnerGiven new old given events → All (IsWithNew new) events
-  owner_with_new new old true events (inl is) =
-      subst (All (IsWithNew new)) (sym is) (All-cons (IsWithNew new) _ [] refl (All-nil _))
-  owner_with_new new old true events (inr is) =
-      subst (All (IsWithNew new)) (sym is) (two (IsWithNew new) refl refl)
-  owner_with_new new old false events is =
-      subst (All (IsWithNew new)) (sym is) (two (IsWithNew new) refl refl)
-
-  given_with_new : (new : F) (old : Access) (events : List (Event F))
-      → IsAccessGiven new old events → All (IsWithNew new) events
-  given_with_new new old events (inl refused) = owner_with_new new old false events refused
-  given_with_new new old events (inr (owner, given, are)) =
-      subst (All (IsWithNew new)) (sym are) (All-append (IsWithNew new) owner _
-      (owner_with_new new old true owner given)
-      (All-cons (IsWithNew new) _ [] refl (All-nil _)))
-
-  access_with_new : (path : List ℕ) (new : F) (events : List (Event F))
-      → IsAccess path new events → All (IsWithNew new) events
-  access_with_new path new events (inl none) =
-      subst (All (IsWithNew new)) (sym none) (All-cons (IsWithNew new) _ [] tt (All-nil _))
-  access_with_new path new events (inr (old, given, is, are)) =
-      subst (All (IsWithNew new)) (sym are)
-      (All-cons (IsWithNew new) _ given tt (given_with_new new old given is))
-
-  pub owner_is_with_new : (new : F) (old : Access) (given : Bool) {a b : Option (List (Event F))}
-      → Did a b (IsOwnerGiven new old given) → Did a b (All (IsWithNew new))
-  owner_is_with_new new old given =
-      Did-map (IsOwnerGiven new old given) (All (IsWithNew new)) (owner_with_new new old given)
-
-  pub access_is_with_new : (path : List ℕ) (new : F) {a b : Option (List (Event F))}
-      → Did a b (IsAccess path new) → Did a b (All (IsWithNew new))
-  access_is_with_new path new =
-      Did-map (IsAccess path new) (All (IsWithNew new)) (access_with_new path new)
-
   -- the owner is refused, and the group is given or not
   pub owner_given : (new : F) (old : Access) (given : Bool) {a b c : Option (List (Event F))}
       → Notes a b (SetOwner new (Some old.user) old.group false)
@@ -98,20 +60,31 @@ module _ {F : Type 0} where
     does = Does-then notes did.does;
   }
 
-  -- a new file is locked and private
-  pub private_is_with_new : (new : F) {a b c : Option (List (Event F))} → Notes a b (Lock new true)
-      → Notes b c (SetMode new 0o600 true) → Did a c (All (IsWithNew new))
-  private_is_with_new new locked private =
-      Did-more (IsWithNew new) (Did-one (IsWithNew new) {e = Lock new true} locked refl)
-      (Did-one (IsWithNew new) {e = SetMode new 0o600 true} private refl)
+  -- it gets them not
 
-  -- and has the text
-  pub written_is_with_new : (new : F) (text : List ℕ) {a b c d : Option (List (Event F))}
-      → Notes a b (Lock new true) → Notes b c (SetMode new 0o600 true)
-      → Notes c d (Write new text true) → Did a d (All (IsWithNew new))
-  written_is_with_new new text locked private written =
-      Did-more (IsWithNew new) (private_is_with_new new locked private)
-      (Did-one (IsWithNew new) {e = Write new text true} written refl)
+  pub mode_refused : (new : F) (old : Access) {a b c : Option (List (Event F))}
+      → Did a b (IsOwnerGiven new old true)
+      → Notes b c (SetMode new (bit_and old.mode 0o777) false) → Did a c (IsModeRefused new old)
+  mode_refused new old did notes = record {
+    events = did.events ++ SetMode new (bit_and old.mode 0o777) false ∷ [];
+    are = (did.events, did.are, refl);
+    does = Does-then did.does notes;
+  }
+
+  pub not_looked_at : (path : List ℕ) (new : F) {a b : Option (List (Event F))}
+      → Notes a b (Look path None) → Did a b (IsNoAccess path new)
+  not_looked_at path new notes = record { events = _; are = inl refl; does = notes }
+
+  pub access_refused : (path : List ℕ) (new : F) (old : Access) {a b c : Option (List (Event F))}
+      → Notes a b (Look path (Some (Some old))) → Did b c (IsModeRefused new old)
+      → Did a c (IsNoAccess path new)
+  access_refused path new old notes did = record {
+    events = Look path (Some (Some old)) ∷ did.events;
+    are = inr (old, did.events, did.are, refl);
+    does = Does-then notes did.does;
+  }
+
+  -- a new file is put, or is not
 
   pub is_put : (path new_path : List ℕ) (new : F) (text : List ℕ)
       {a b c d e f g : Option (List (Event F))} → Notes a b (Lock new true)
@@ -121,6 +94,61 @@ module _ {F : Type 0} where
   is_put path new_path new text locked private written access synced renamed = record {
     events = _;
     are = record { access = access.events; kept = access.are; are = refl };
+    does = Does-then (Does-then locked (Does-then private (Does-then written access.does)))
+        (Does-then synced renamed);
+  }
+
+  pub not_locked : (path new_path : List ℕ) (new : F) (text : List ℕ)
+      {a b : Option (List (Event F))} → Notes a b (Lock new false)
+      → Did a b (IsNotPut path new_path new text)
+  not_locked path new_path new text locked =
+      record { events = _; are = inl refl; does = locked }
+
+  pub not_private : (path new_path : List ℕ) (new : F) (text : List ℕ)
+      {a b c : Option (List (Event F))} → Notes a b (Lock new true)
+      → Notes b c (SetMode new 0o600 false) → Did a c (IsNotPut path new_path new text)
+  not_private path new_path new text locked private =
+      record { events = _; are = inr (inl refl); does = Does-then locked private }
+
+  pub not_written : (path new_path : List ℕ) (new : F) (text : List ℕ)
+      {a b c d : Option (List (Event F))} → Notes a b (Lock new true)
+      → Notes b c (SetMode new 0o600 true) → Notes c d (Write new text false)
+      → Did a d (IsNotPut path new_path new text)
+  not_written path new_path new text locked private written = record {
+    events = _;
+    are = inr (inr (inl refl));
+    does = Does-then locked (Does-then private written);
+  }
+
+  pub not_given : (path new_path : List ℕ) (new : F) (text : List ℕ)
+      {a b c d e : Option (List (Event F))} → Notes a b (Lock new true)
+      → Notes b c (SetMode new 0o600 true) → Notes c d (Write new text true)
+      → Did d e (IsNoAccess path new) → Did a e (IsNotPut path new_path new text)
+  not_given path new_path new text locked private written access = record {
+    events = _;
+    are = inr (inr (inr (inl (access.events, access.are, refl))));
+    does = Does-then locked (Does-then private (Does-then written access.does));
+  }
+
+  pub not_on_disk : (path new_path : List ℕ) (new : F) (text : List ℕ)
+      {a b c d e f : Option (List (Event F))} → Notes a b (Lock new true)
+      → Notes b c (SetMode new 0o600 true) → Notes c d (Write new text true)
+      → Did d e (IsAccess path new) → Notes e f (Sync new false)
+      → Did a f (IsNotPut path new_path new text)
+  not_on_disk path new_path new text locked private written access synced = record {
+    events = _;
+    are = inr (inr (inr (inr (inl (access.events, access.are, refl)))));
+    does = Does-then (Does-then locked (Does-then private (Does-then written access.does))) synced;
+  }
+
+  pub not_renamed : (path new_path : List ℕ) (new : F) (text : List ℕ)
+      {a b c d e f g : Option (List (Event F))} → Notes a b (Lock new true)
+      → Notes b c (SetMode new 0o600 true) → Notes c d (Write new text true)
+      → Did d e (IsAccess path new) → Notes e f (Sync new true)
+      → Notes f g (Rename new_path path false) → Did a g (IsNotPut path new_path new text)
+  not_renamed path new_path new text locked private written access synced renamed = record {
+    events = _;
+    are = inr (inr (inr (inr (inr (access.events, access.are, refl)))));
     does = Does-then (Does-then locked (Does-then private (Does-then written access.does)))
         (Does-then synced renamed);
   }
@@ -302,9 +330,10 @@ module _ {F : Type 0} where
 
   pub is_undone : (path text : List ℕ) (failed : Failure) (folder : F) (new_path : List ℕ) (new : F)
       (removed : Bool) {a b c d : Option (List (Event F))} → IsOfSystem step.Replace failed
-      → Did a b (IsMade path folder new_path new) → Did b c (IsStopped (IsWithNew new))
+      → Did a b (IsMade path folder new_path new)
+      → Did b c (IsNotPut path new_path new text)
       → Notes c d (Remove new_path removed) → Did a d (IsNotReplaced path text failed)
-  is_undone path text failed folder new_path new removed is made stopped notes = record {
+  is_undone path text failed folder new_path new removed is made tried notes = record {
     events = _;
     are = inr (inl (
       is,
@@ -313,14 +342,14 @@ module _ {F : Type 0} where
         new_path = new_path;
         new = new;
         made = made.events;
-        tried = stopped.events;
+        tried = tried.events;
         removed = removed;
         is_made = made.are;
-        stopped = stopped.are;
+        is_not_put = tried.are;
         are = refl;
       },
     ));
-    does = Does-then (Does-then made.does stopped.does) notes;
+    does = Does-then (Does-then made.does tried.does) notes;
   }
 
   pub not_synced : (path text : List ℕ) (failed : Failure) {a b : Option (List (Event F))}

@@ -94,6 +94,16 @@ abbrev pub IsNoPassword : Failure → Type 0
 IsNoPassword failed =
     (failed ≡ failure.NoPassword) ⊎ (failed ≡ failure.TooLong) ⊎ IsOfSystem ReadPassword failed
 
+-- why a store's file is not read
+abbrev pub IsNotRead : Failure → Type 0
+IsNotRead failed = (failed ≡ failure.NoFile) ⊎ (failed ≡ failure.NoFolder)
+    ⊎ (failed ≡ failure.NotAFile) ⊎ (failed ≡ failure.Temporary) ⊎ (failed ≡ failure.NotAStore)
+    ⊎ IsOfSystem ReadFile failed
+
+-- why a store's file is not read to be replaced
+abbrev pub IsNotReplaceable : Failure → Type 0
+IsNotReplaceable failed = (failed ≡ failure.Linked) ⊎ IsNotRead failed
+
 -- why a store's file is not locked
 abbrev pub IsNotLocked : Failure → Type 0
 IsNotLocked failed = (failed ≡ failure.BadLock) ⊎ (failed ≡ failure.InUse)

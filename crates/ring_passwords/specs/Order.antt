@@ -11,7 +11,8 @@ use Rattle.ring_store_text.specs.Text.{IsStore, text_of}
 use Rattle.ring_passwords.specs.Change.{IsCountOfNew, IsNoStore, told, with_given}
 use Rattle.ring_passwords.specs.Event.{Event, LockStore, LookForLinks, Random, ReadPassword}
 use Rattle.ring_passwords.specs.Event.{ReadStore, ReadToReplace}
-use Rattle.ring_passwords.specs.Failure.{IsNoPassword, IsNotLocked, IsOfSystem}
+use Rattle.ring_passwords.specs.Failure.{IsNoPassword, IsNotLocked, IsNotRead, IsNotReplaceable}
+use Rattle.ring_passwords.specs.Failure.{IsOfSystem}
 use Rattle.ring_passwords.specs.Replace.{IsNotReplaced, IsReplaced}
 use Rattle.ring_passwords.specs.declared.failure.Failure.{Failure}
 use Rattle.ring_passwords.specs.declared.failure.Failure.TheVariants as failure
@@ -24,7 +25,7 @@ IsLoaded path store events = IsStore store × (events ≡ ReadStore path (Ok (te
 -- no text is read, or one that gives no store
 abbrev pub IsNotLoaded : {F : Type 0} → (path : List ℕ) → Failure → List (Event F) → Type 0
 IsNotLoaded path failed events =
-    (events ≡ ReadStore path (Err failed) ∷ [])
+    (IsNotRead failed × (events ≡ ReadStore path (Err failed) ∷ []))
     ⊎ ((text : List ℕ) × IsNoStore text failed × (events ≡ ReadStore path (Ok text) ∷ []))
 
 -- before the password is read, the name is refused or the file
@@ -57,7 +58,7 @@ pub record IsTested {F : Type 0} (Z : Type 0) (path name : List ℕ) (start end 
 abbrev pub IsNotTested : {F : Type 0} → (path : List ℕ) → Failure → List (Event F) → Type 0
 IsNotTested path failed events =
     IsNotSeen path failed events
-    ⊎ ((before : List ℕ)
+    ⊎ (IsNoPassword failed × (before : List ℕ)
     × (events ≡ ReadStore path (Ok before) ∷ ReadPassword (Err failed) ∷ []))
     ⊎ ((before password : List ℕ) × (last : List (Event _)) × IsNotLoaded path failed last
     × (events ≡ ReadStore path (Ok before) ∷ ReadPassword (Ok password) ∷ last))
@@ -99,7 +100,7 @@ IsTaken path given missing store events =
 abbrev pub IsNotTaken : {F : Type 0} → (path : List ℕ) → (missing : Bool) → Failure
     → List (Event F) → Type 0
 IsNotTaken path missing failed events =
-    ((¬ ((missing ≡ true) × (failed ≡ failure.NoFile)))
+    (IsNotReplaceable failed × (¬ ((missing ≡ true) × (failed ≡ failure.NoFile)))
     × (events ≡ ReadToReplace path (Err failed) ∷ []))
     ⊎ ((text : List ℕ) × IsNoStore text failed × (events ≡ ReadToReplace path (Ok text) ∷ []))
     ⊎ ((missing ≡ true) × IsOfSystem step.Salt failed × (salt : List ℕ)
@@ -119,7 +120,7 @@ pub record IsBegun {F Z : Type 0} (path : List ℕ) (given : Option NonZeroU32) 
 abbrev pub IsNotLooked : {F : Type 0} → (path : List ℕ) → Failure → List (Event F) → Type 0
 IsNotLooked path failed events =
     ((failed ≢ failure.NoFile) × IsNotSeen path failed events)
-    ⊎ ((text : List ℕ)
+    ⊎ (IsNotReplaceable failed × (text : List ℕ)
     × (events ≡ ReadStore path (Ok text) ∷ LookForLinks path (Err failed) ∷ []))
 
 -- after the first look the password is not read, or the file is not locked, or it gives no store
@@ -167,6 +168,12 @@ IsNotAdmitted Z path name given failed events =
     ⊎ ((failed ≡ failure.Memory) × (admission name password ≡ Ok tt)
     × (knows store name ≡ false)))
 
+-- the file gets the text of that store, and the folder is not synced
+abbrev pub IsSetUnsynced : {F : Type 0} → (Z : Type 0) → (path name : List ℕ)
+    → (given : Option NonZeroU32) → List (Event F) → Type 0
+IsSetUnsynced Z path name given events =
+    IsSetThen Z path name given (λ set last. IsReplaced path (text_of set) false last) events
+
 -- why, and after which steps, a password is not set, or not for certain
 abbrev pub IsNotSet : {F : Type 0} → (Z : Type 0) → (path name : List ℕ)
     → (given : Option NonZeroU32) → Failure → List (Event F) → Type 0
@@ -197,7 +204,7 @@ IsOpened path store events = IsStore store × (events ≡ LookForLinks path (Ok 
 -- the file has another name, or is not locked, or gives no store
 abbrev pub IsNotOpened : {F : Type 0} → (path : List ℕ) → Failure → List (Event F) → Type 0
 IsNotOpened path failed events =
-    (events ≡ LookForLinks path (Err failed) ∷ [])
+    (IsNotReplaceable failed × (events ≡ LookForLinks path (Err failed) ∷ []))
     ⊎ (IsNotLocked failed × (events ≡ LookForLinks path (Ok tt) ∷ LockStore path false ∷ []))
     ⊎ ((taken : List (Event _)) × IsNotTaken path false failed taken
     × (events ≡ LookForLinks path (Ok tt) ∷ LockStore path true ∷ taken))
@@ -218,6 +225,12 @@ abbrev pub IsRemoved : {F : Type 0} → (Z : Type 0) → (path name : List ℕ) 
     → Type 0
 IsRemoved Z path name events =
     IsRemovedThen Z path name (λ text last. IsReplaced path text true last) events
+
+-- the file gets the text of the store without the name, and the folder is not synced
+abbrev pub IsRemovedUnsynced : {F : Type 0} → (Z : Type 0) → (path name : List ℕ)
+    → List (Event F) → Type 0
+IsRemovedUnsynced Z path name events =
+    IsRemovedThen Z path name (λ text last. IsReplaced path text false last) events
 
 -- why, and after which steps, a name is not removed, or not for certain
 abbrev pub IsNotRemoved : {F : Type 0} → (Z : Type 0) → (path name : List ℕ) → Failure

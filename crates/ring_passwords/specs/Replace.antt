@@ -132,11 +132,23 @@ IsAccessGiven new old events =
     ⊎ ((owner : List (Event _)) × IsOwnerGiven new old true owner
     × (events ≡ owner ++ SetMode new (bit_and old.mode 0o777) true ∷ []))
 
+-- with the group it is refused those bits
+abbrev pub IsModeRefused : {F : Type 0} → (new : F) → (old : Access) → List (Event F) → Type 0
+IsModeRefused new old events = (owner : List (Event _)) × IsOwnerGiven new old true owner
+    × (events ≡ owner ++ SetMode new (bit_and old.mode 0o777) false ∷ [])
+
 -- a new file gets what an old one has, if there is one
 abbrev pub IsAccess : {F : Type 0} → (path : List ℕ) → (new : F) → List (Event F) → Type 0
 IsAccess path new events =
     (events ≡ Look path (Some None) ∷ [])
     ⊎ ((old : Access) × (given : List (Event _)) × IsAccessGiven new old given
+    × (events ≡ Look path (Some (Some old)) ∷ given))
+
+-- it does not: the old one is not looked at, or the new one is refused the mode
+abbrev pub IsNoAccess : {F : Type 0} → (path : List ℕ) → (new : F) → List (Event F) → Type 0
+IsNoAccess path new events =
+    (events ≡ Look path None ∷ [])
+    ⊎ ((old : Access) × (given : List (Event _)) × IsModeRefused new old given
     × (events ≡ Look path (Some (Some old)) ∷ given))
 
 -- a new file is locked and private, gets the text and what the old file has, is on the disk, and
@@ -148,16 +160,22 @@ pub record IsPut {F : Type 0} (path new_path : List ℕ) (new : F) (text : List 
   pub are : events ≡ (Lock new true ∷ SetMode new 0o600 true ∷ Write new text true ∷ access)
       ++ Sync new true ∷ Rename new_path path true ∷ []
 
--- a step with a new file, which takes no name
-abbrev pub IsWithNew : {F : Type 0} → (new : F) → Event F → Type 0
-IsWithNew new (Lock file done) = file ≡ new
-IsWithNew new (SetMode file mode done) = file ≡ new
-IsWithNew new (SetOwner file user group done) = file ≡ new
-IsWithNew new (Write file bytes done) = file ≡ new
-IsWithNew new (Look path found) = Unit {0}
-IsWithNew new (Sync file done) = file ≡ new
-IsWithNew new (Rename from to false) = Unit {0}
-IsWithNew new _ = ⊥
+-- the same steps up to the first that is refused: a new file is not locked, or not private, or
+-- does not get the text or what the old file has, or is not on the disk, or does not take the name
+abbrev pub IsNotPut : {F : Type 0} → (path new_path : List ℕ) → (new : F) → (text : List ℕ)
+    → List (Event F) → Type 0
+IsNotPut path new_path new text events =
+    (events ≡ Lock new false ∷ [])
+    ⊎ (events ≡ Lock new true ∷ SetMode new 0o600 false ∷ [])
+    ⊎ (events ≡ Lock new true ∷ SetMode new 0o600 true ∷ Write new text false ∷ [])
+    ⊎ ((access : List (Event _)) × IsNoAccess path new access
+    × (events ≡ Lock new true ∷ SetMode new 0o600 true ∷ Write new text true ∷ access))
+    ⊎ ((access : List (Event _)) × IsAccess path new access
+    × (events ≡ (Lock new true ∷ SetMode new 0o600 true ∷ Write new text true ∷ access)
+    ++ Sync new false ∷ []))
+    ⊎ ((access : List (Event _)) × IsAccess path new access
+    × (events ≡ (Lock new true ∷ SetMode new 0o600 true ∷ Write new text true ∷ access)
+    ++ Sync new true ∷ Rename new_path path false ∷ []))
 
 -- a new file is made and takes the name, and then the folder is synced or not
 pub record IsReplaced {F : Type 0} (path text : List ℕ) (synced : Bool) (events : List (Event F))
@@ -172,7 +190,7 @@ pub record IsReplaced {F : Type 0} (path text : List ℕ) (synced : Bool) (event
   pub are : events ≡ made ++ put ++ Sync folder synced ∷ []
 
 -- a new file is made, does not take the name, and is removed
-pub record IsUndone {F : Type 0} (path : List ℕ) (events : List (Event F)) : Type 0 where
+pub record IsUndone {F : Type 0} (path text : List ℕ) (events : List (Event F)) : Type 0 where
   pub folder : F
   pub new_path : List ℕ
   pub new : F
@@ -180,14 +198,14 @@ pub record IsUndone {F : Type 0} (path : List ℕ) (events : List (Event F)) : T
   pub tried : List (Event F)
   pub removed : Bool
   pub is_made : IsMade path folder new_path new made
-  pub stopped : IsStopped (IsWithNew new) tried
+  pub is_not_put : IsNotPut path new_path new text tried
   pub are : events ≡ made ++ tried ++ Remove new_path removed ∷ []
 
 -- why, and after which steps, a file is not replaced, or not for certain
 abbrev pub IsNotReplaced : {F : Type 0} → (path text : List ℕ) → Failure → List (Event F) → Type 0
 IsNotReplaced path text failed events =
     IsNotMade path failed events
-    ⊎ (IsOfSystem step.Replace failed × IsUndone path events)
+    ⊎ (IsOfSystem step.Replace failed × IsUndone path text events)
     ⊎ (IsOfSystem step.SyncFolder failed × IsReplaced path text false events)
 
 -- the path is that of a temporary file of the path's file

@@ -4,6 +4,7 @@
 ghost use Rattle.std.specs.Prelude.{◌≡◌, ℕ, Err, None, Ok, Some, is_ok, map, string_bytes};
 ghost use Rattle.ring_passwords.specs.Event.{Event, Notes, bytes_read};
 ghost use Rattle.ring_passwords.specs.Event as event;
+ghost use Rattle.ring_passwords.specs.Failure.{IsNotRead};
 ghost use Rattle.ring_passwords.specs.declared.disk.Note.TheVariants as note;
 
 use crate::failure::Failure;
@@ -92,6 +93,7 @@ fn told(done: bool) -> io::Result<()>
 fn refusal(absence: Absence) -> Failure
     ensures missing { absence ≡ Absence.Missing → result ≡ Failure.NoFile }
     ensures refused { absence ≡ Absence.Refused → result ≡ Failure.NotAFile }
+    ensures failure { IsNotRead result }
 {
     match absence {
         Absence::Missing => Failure::NoFile,

@@ -3,7 +3,7 @@
 
 ghost use Rattle.std.specs.Prelude.{◌≡◌, IfErr, IfOk};
 ghost use Rattle.ring_store_text.specs.Text.{IsStore};
-ghost use Rattle.ring_passwords.specs.Failure.{status_of};
+ghost use Rattle.ring_passwords.specs.Failure.{IsNotRead, IsNotReplaceable, status_of};
 
 use crate::change::{MARK, begins_store, store_in};
 use crate::failure::{Failure, Step};
@@ -34,6 +34,7 @@ pub fn load<R: Files<File = File> + AllocGlobal>(
 
 /// The text that stands in a file, which begins as a store's.
 pub fn text_in<R: Files<File = File> + AllocGlobal>(rt: &R, path: &str) -> Result<Vec<u8>, Failure>
+    ensures failure { IfErr result IsNotRead }
     ensures status { IfErr result (λ failure. status_of failure ≡ 2) }
 {
     let file = opened(rt, path)?;
@@ -43,6 +44,7 @@ pub fn text_in<R: Files<File = File> + AllocGlobal>(rt: &R, path: &str) -> Resul
 /// Refuses a path that is not of a regular file, or whose file has another name that would keep the
 /// old text.
 pub fn require_replaceable<R: Files>(rt: &R, path: &str) -> Result<(), Failure>
+    ensures failure { IfErr result IsNotReplaceable }
     ensures status { IfErr result (λ failure. status_of failure ≡ 2) }
 {
     let found = regular_at(rt, path)?;
@@ -54,6 +56,7 @@ pub fn require_replaceable<R: Files>(rt: &R, path: &str) -> Result<(), Failure>
 
 /// What the system tells of a regular file that can be a store's. A symbolic link is none.
 fn regular_at<R: Files>(rt: &R, path: &str) -> Result<Metadata, Failure>
+    ensures failure { IfErr result IsNotRead }
     ensures status { IfErr result (λ failure. status_of failure ≡ 2) }
 {
     if is_temporary(path) {
@@ -69,7 +72,8 @@ fn regular_at<R: Files>(rt: &R, path: &str) -> Result<Metadata, Failure>
 
 /// The system refuses to read the file.
 fn unread(error: io::Error) -> Failure
-    ensures { status_of result ≡ 2 }
+    ensures failure { result ≡ Failure.System Step.ReadFile error }
+    ensures status { status_of result ≡ 2 }
 {
     Failure::System(Step::ReadFile, error)
 }
@@ -77,6 +81,7 @@ fn unread(error: io::Error) -> Failure
 /// A regular file, open. Another process may replace it between the look and the open: it is then
 /// looked at again.
 fn opened<R: Files<File = File>>(rt: &R, path: &str) -> Result<File, Failure>
+    ensures failure { IfErr result IsNotRead }
     ensures status { IfErr result (λ failure. status_of failure ≡ 2) }
 {
     'looks: for _ in 0..LOOKS {
@@ -92,6 +97,7 @@ fn opened<R: Files<File = File>>(rt: &R, path: &str) -> Result<File, Failure>
 
 /// The bytes of a file.
 fn read<R: AllocGlobal>(rt: &R, file: File) -> Result<Vec<u8>, Failure>
+    ensures failure { IfErr result IsNotRead }
     ensures status { IfErr result (λ failure. status_of failure ≡ 2) }
 {
     let mut file = file;
@@ -110,6 +116,7 @@ fn read<R: AllocGlobal>(rt: &R, file: File) -> Result<Vec<u8>, Failure>
 
 /// Why a file is not there: it, or its folder. A path that ends in a slash is that of a folder.
 fn missing<R: Files>(rt: &R, path: &str) -> Failure
+    ensures failure { IsNotRead result }
     ensures status { status_of result ≡ 2 }
 {
     if path.is_empty() || path.ends_with('/') {

@@ -7,7 +7,8 @@ ghost use Rattle.ring_passwords.specs.Event.{Did};
 ghost use Rattle.ring_passwords.specs.Failure.{IsOfSystem, status_of};
 ghost use Rattle.ring_passwords.specs.Order.{IsBegun, IsFirstLook, IsGone, IsLoaded, IsNotBegun};
 ghost use Rattle.ring_passwords.specs.Order.{IsNotLooked, IsNotRemoved, IsNotSeen, IsNotSet};
-ghost use Rattle.ring_passwords.specs.Order.{IsRemoved, IsSet, IsVerified};
+ghost use Rattle.ring_passwords.specs.Order.{IsRemoved, IsRemovedUnsynced, IsSet, IsSetUnsynced};
+ghost use Rattle.ring_passwords.specs.Order.{IsVerified};
 ghost use Rattle.ring_passwords.specs.Replace.{IsKept};
 ghost use Rattle.ring_passwords.specs.declared.failure.Step.TheVariants.{SyncFolder};
 
@@ -151,6 +152,9 @@ pub fn set_in_file<S: Steps>(
         (IsGone path.now failure)) }
     ensures unchanged { IfErr result (λ failure. ¬ (IsOfSystem SyncFolder failure)
         → Did (S.events steps.old) (S.events steps.new) (IsKept path.now)) }
+    ensures unsynced { IfErr result (λ failure. IsOfSystem SyncFolder failure
+        → Did (S.events steps.old) (S.events steps.new)
+        (IsSetUnsynced Global path.now name.now iterations)) }
     ensures bad_name { is_name name.now ≡ false → IsErrOf result Failure.BadName
         × (S.events steps.new ≡ S.events steps.old) }
     ensures status { IfErr result (λ failure. status_of failure ≡ 2) }
@@ -178,6 +182,9 @@ pub fn remove_from_file<S: Steps>(
         (IsNotRemoved Global path.now name.now failure)) }
     ensures unchanged { IfErr result (λ failure. ¬ (IsOfSystem SyncFolder failure)
         → Did (S.events steps.old) (S.events steps.new) (IsKept path.now)) }
+    ensures unsynced { IfErr result (λ failure. IsOfSystem SyncFolder failure
+        → Did (S.events steps.old) (S.events steps.new)
+        (IsRemovedUnsynced Global path.now name.now)) }
     ensures status { IfErr result (λ failure. (status_of failure ≡ 2)
         ⊎ (failure ≡ Failure.NoSuchName)) }
 {

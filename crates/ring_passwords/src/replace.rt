@@ -4,9 +4,9 @@
 ghost use Rattle.std.specs.Prelude.{◌≡◌, IfErr, IfOk, OnErr, OnOk, false, string_bytes, true};
 ghost use Rattle.ring_passwords.specs.Event.{Did, Notes, Sync};
 ghost use Rattle.ring_passwords.specs.Failure.{IsOfSystem, status_of};
-ghost use Rattle.ring_passwords.specs.Replace.{IsAccess, IsAccessGiven, IsMade, IsNotMade};
-ghost use Rattle.ring_passwords.specs.Replace.{IsNotReplaced, IsOwnerGiven, IsPut, IsReplaced};
-ghost use Rattle.ring_passwords.specs.Replace.{IsStopped, IsWithNew, granted};
+ghost use Rattle.ring_passwords.specs.Replace.{IsAccess, IsAccessGiven, IsMade, IsModeRefused};
+ghost use Rattle.ring_passwords.specs.Replace.{IsNoAccess, IsNotMade, IsNotPut, IsNotReplaced};
+ghost use Rattle.ring_passwords.specs.Replace.{IsOwnerGiven, IsPut, IsReplaced, granted};
 
 use crate::failure::{Failure, Step};
 use crate::folder::folder_of;
@@ -115,7 +115,7 @@ fn put<S: Steps>(
     ensures ok { OnOk result (Did (S.events steps.old) (S.events steps.new)
         (IsPut path.now new_path.now new.now text.now)) }
     ensures refused { OnErr result (Did (S.events steps.old) (S.events steps.new)
-        (IsStopped (IsWithNew new.now))) }
+        (IsNotPut path.now new_path.now new.now text.now)) }
 {
     // Until its end, or this process's, nobody takes it for one that an interrupted run left.
     steps.lock(new)?;
@@ -132,7 +132,7 @@ fn keep_access<S: Steps>(steps: &mut S, path: &str, new: &S::File) -> io::Result
     ensures ok { OnOk result (Did (S.events steps.old) (S.events steps.new)
         (IsAccess path.now new.now)) }
     ensures refused { OnErr result (Did (S.events steps.old) (S.events steps.new)
-        (IsStopped (IsWithNew new.now))) }
+        (IsNoAccess path.now new.now)) }
 {
     match steps.access(path)? {
         Some(old) => give_access(steps, new, old),
@@ -148,7 +148,7 @@ fn give_access<S: Steps>(steps: &mut S, new: &S::File, old: Access) -> io::Resul
     ensures ok { OnOk result (Did (S.events steps.old) (S.events steps.new)
         (IsAccessGiven new.now old)) }
     ensures refused { OnErr result (Did (S.events steps.old) (S.events steps.new)
-        (IsStopped (IsWithNew new.now))) }
+        (IsModeRefused new.now old)) }
 {
     if !give_owner(steps, new, old) {
         return Ok(());

@@ -5,7 +5,8 @@ ghost use Rattle.std.specs.Prelude.{◌≡◌, ℕ, List, Option, IfErr, is_ok, 
 ghost use Rattle.std.specs.Result.{result_ok};
 ghost use Rattle.ring_passwords.specs.Event.{Event, Notes, bytes_read, name_read};
 ghost use Rattle.ring_passwords.specs.Event as event;
-ghost use Rattle.ring_passwords.specs.Failure.{IsNoPassword, IsNotLocked, status_of};
+ghost use Rattle.ring_passwords.specs.Failure.{IsNoPassword, IsNotLocked, IsNotRead};
+ghost use Rattle.ring_passwords.specs.Failure.{IsNotReplaceable, status_of};
 
 use crate::failure::Failure;
 use std::io;
@@ -125,6 +126,7 @@ pub trait Steps {
     fn read_store(&mut self, path: &str) -> Result<Vec<u8>, Failure>
         ensures noted { Notes (events self.old) (events self.new)
             (event.ReadStore path.now (bytes_read result)) }
+        ensures failure { IfErr result IsNotRead }
         ensures status { IfErr result (λ failure. status_of failure ≡ 2) };
 
     /// Refuses a path that is not of a regular file, or whose file has another name that would keep
@@ -132,6 +134,7 @@ pub trait Steps {
     fn look_for_links(&mut self, path: &str) -> Result<(), Failure>
         ensures noted { Notes (events self.old) (events self.new)
             (event.LookForLinks path.now result) }
+        ensures failure { IfErr result IsNotReplaceable }
         ensures status { IfErr result (λ failure. status_of failure ≡ 2) };
 
     /// Locks a store's file, which need not be there.
@@ -144,5 +147,6 @@ pub trait Steps {
     fn read_to_replace(&mut self, path: &str) -> Result<Vec<u8>, Failure>
         ensures noted { Notes (events self.old) (events self.new)
             (event.ReadToReplace path.now (bytes_read result)) }
+        ensures failure { IfErr result IsNotReplaceable }
         ensures status { IfErr result (λ failure. status_of failure ≡ 2) };
 }

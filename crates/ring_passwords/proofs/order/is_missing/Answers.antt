@@ -15,7 +15,8 @@ pub returns-in_err-look_for_links-in-Ok-clause-refused
 returns-in_err-look_for_links-in-Ok-clause-refused g c =
     let path = c.args.path.now in
     Did-exits (IsNotLooked path) c.from_residual.result c.from_residual.ensures.1
-    (λ failed is. rw is (not_looked_links path c.in-Ok._store _ c.in-Ok.ensures.ok
+    (λ failed is. rw is (not_looked_links path c.in-Ok._store _
+    c.in_err-look_for_links-in-Ok.ensures.failure c.in-Ok.ensures.ok
     c.in_err-look_for_links-in-Ok.ensures.noted))
 
 pub returns-in_ok-look_for_links-in-Ok-clause-ok

@@ -6,6 +6,7 @@ use Rattle.ring_passwords.proofs.Kept.{kept_if_not_removed}
 use Rattle.ring_passwords.proofs.Ordered.{not_opened_links, not_opened_lock, not_opened_taken}
 use Rattle.ring_passwords.proofs.Ordered.{not_removed_opened, not_removed_replaced}
 use Rattle.ring_passwords.proofs.Ordered.{not_removed_unknown, opened, removed}
+use Rattle.ring_passwords.proofs.Unsynced.{unsynced_if_not_removed}
 use Rattle.ring_passwords.proofs.order.remove_from_file.Goals as goal
 
 pub returns-in_err-look_for_links-clause-refused : goal.returns-in_err-look_for_links-clause-refused
@@ -14,7 +15,8 @@ returns-in_err-look_for_links-clause-refused g c =
     let name = c.args.name.now in
     Did-exits (IsNotRemoved Global path name) c.from_residual.result c.from_residual.ensures.1
     (λ failed is. rw is (not_removed_opened path name _
-    (not_opened_links path _ c.in_err-look_for_links.ensures.noted)))
+    (not_opened_links path _ c.in_err-look_for_links.ensures.failure
+    c.in_err-look_for_links.ensures.noted)))
 
 pub returns-in_err-file-clause-refused : goal.returns-in_err-file-clause-refused
 returns-in_err-file-clause-refused g c =
@@ -94,4 +96,29 @@ returns-in_err-remove-clause-unchanged g c =
 pub returns-clause-unchanged : goal.returns-clause-unchanged
 returns-clause-unchanged g c =
     kept_if_not_removed c.args.path.now Global c.args.name.now c.replace.result _ _
+    (returns-clause-refused g c)
+
+pub returns-in_err-look_for_links-clause-unsynced : goal.returns-in_err-look_for_links-clause-unsynced
+returns-in_err-look_for_links-clause-unsynced g c =
+    unsynced_if_not_removed c.args.path.now Global c.args.name.now c.from_residual.result _ _
+    (returns-in_err-look_for_links-clause-refused g c)
+
+pub returns-in_err-file-clause-unsynced : goal.returns-in_err-file-clause-unsynced
+returns-in_err-file-clause-unsynced g c =
+    unsynced_if_not_removed c.args.path.now Global c.args.name.now c.from_residual-in_err-file.result _ _
+    (returns-in_err-file-clause-refused g c)
+
+pub returns-in_err-store-clause-unsynced : goal.returns-in_err-store-clause-unsynced
+returns-in_err-store-clause-unsynced g c =
+    unsynced_if_not_removed c.args.path.now Global c.args.name.now c.from_residual-in_err-store.result _ _
+    (returns-in_err-store-clause-refused g c)
+
+pub returns-in_err-remove-clause-unsynced : goal.returns-in_err-remove-clause-unsynced
+returns-in_err-remove-clause-unsynced g c =
+    unsynced_if_not_removed c.args.path.now Global c.args.name.now c.from_residual-in_err-remove.result _ _
+    (returns-in_err-remove-clause-refused g c)
+
+pub returns-clause-unsynced : goal.returns-clause-unsynced
+returns-clause-unsynced g c =
+    unsynced_if_not_removed c.args.path.now Global c.args.name.now c.replace.result _ _
     (returns-clause-refused g c)

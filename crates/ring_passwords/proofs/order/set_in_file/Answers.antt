@@ -5,6 +5,7 @@ use Rattle.ring_passwords.proofs.Events.{Did-exits, absurd_same, exits_as}
 use Rattle.ring_passwords.proofs.Kept.{kept_if_not_set}
 use Rattle.ring_passwords.proofs.Ordered.{gone_if_not_set, is_set, not_set_admitted, not_set_begun}
 use Rattle.ring_passwords.proofs.Ordered.{not_set_replaced}
+use Rattle.ring_passwords.proofs.Unsynced.{unsynced_if_not_set}
 use Rattle.ring_passwords.specs.declared.failure.Failure.TheVariants as failure
 use Rattle.ring_passwords.proofs.order.set_in_file.Goals as goal
 
@@ -103,3 +104,21 @@ returns-in_err-replace-clause-bad_name g c = λ bad.
 pub returns-clause-bad_name : goal.returns-clause-bad_name
 returns-clause-bad_name g c = λ bad.
     let told = (c.in_ok-password.ensures.bad_name bad).0 in (absurd cc, absurd_same _ _ cc)
+
+pub returns-in_err-password-clause-unsynced : goal.returns-in_err-password-clause-unsynced
+returns-in_err-password-clause-unsynced g c =
+    unsynced_if_not_set c.args.path.now Global c.args.name.now c.from_residual.result _ _
+    c.args.iterations
+    (returns-in_err-password-clause-refused g c)
+
+pub returns-in_err-set-clause-unsynced : goal.returns-in_err-set-clause-unsynced
+returns-in_err-set-clause-unsynced g c =
+    unsynced_if_not_set c.args.path.now Global c.args.name.now c.from_residual-in_err-set.result _ _
+    c.args.iterations
+    (returns-in_err-set-clause-refused g c)
+
+pub returns-in_err-replace-clause-unsynced : goal.returns-in_err-replace-clause-unsynced
+returns-in_err-replace-clause-unsynced g c =
+    unsynced_if_not_set c.args.path.now Global c.args.name.now c.from_residual-in_err-replace.result _ _
+    c.args.iterations
+    (returns-in_err-replace-clause-refused g c)

@@ -14,7 +14,8 @@ pub returns-in_err-password-clause-tested : goal.returns-in_err-password-clause-
 returns-in_err-password-clause-tested g c =
     not_verified c.args.path.now c.args.name.now c.args.meter.now
     c.from_residual-in_err-password.result _ c.from_residual-in_err-password.ensures.1
-    (not_typed c.args.path.now _ _ c.in_ok-look.ensures.ok c.in_err-password.ensures.noted)
+    (not_typed c.args.path.now _ _ c.in_err-password.ensures.failure c.in_ok-look.ensures.ok
+    c.in_err-password.ensures.noted)
 
 pub returns-in_err-store-clause-tested : goal.returns-in_err-store-clause-tested
 returns-in_err-store-clause-tested g c =

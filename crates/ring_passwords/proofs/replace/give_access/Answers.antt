@@ -1,10 +1,9 @@
 -- SPDX-License-Identifier: ISC
-use Rattle.std.proofs.Common.{◌≡◌, false, refl, rules, true}
+use Rattle.std.proofs.Common.{◌≡◌, rules, true}
 use Rattle.std.specs.Prelude.{bit_and}
 use Rattle.ring_passwords.specs.Event.{SetMode}
-use Rattle.ring_passwords.specs.Replace.{IsWithNew}
-use Rattle.ring_passwords.proofs.Events.{Did-stops, on_err_noted, on_ok_noted}
-use Rattle.ring_passwords.proofs.Replaced.{access_given, owner_is_with_new}
+use Rattle.ring_passwords.proofs.Events.{on_err_noted, on_ok_noted}
+use Rattle.ring_passwords.proofs.Replaced.{access_given, mode_refused}
 use Rattle.ring_passwords.proofs.replace.give_access.Goals as goal
 
 pub returns-clause-ok : goal.returns-clause-ok
@@ -19,6 +18,6 @@ pub returns-clause-refused : goal.returns-clause-refused
 returns-clause-refused g c =
     let new = c.args.new.now in
     let old = c.args.old in
+    let given : c.give_owner.result ≡ true = search rules in
     on_err_noted c.set_mode.result (SetMode new (bit_and old.mode 0o777)) _ _ c.set_mode.ensures
-    (λ noted. Did-stops (IsWithNew new) {e = SetMode new (bit_and old.mode 0o777) false}
-    (owner_is_with_new new old c.give_owner.result c.give_owner.ensures) noted refl tt)
+    (λ noted. mode_refused new old (rw given at c.give_owner.ensures) noted)

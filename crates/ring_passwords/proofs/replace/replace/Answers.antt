@@ -35,6 +35,7 @@ returns-in-Ok-clause-refused g c =
 pub returns-clause-refused : goal.returns-clause-refused
 returns-clause-refused g c =
     let new = c.in_ok-new.new in
+    let tried = rw c.as_str.ensures.value at c.in-Err.ensures.refused in
     let removed = rw c.as_str-in-Err.ensures.value at c.remove.ensures in
     is_undone c.args.path.now c.args.text.now c.not_replaced.result new.folder _ new.file _
-    (c.in-Err.error, c.not_replaced.ensures) c.in_ok-new.ensures.ok c.in-Err.ensures.refused removed
+    (c.in-Err.error, c.not_replaced.ensures) c.in_ok-new.ensures.ok tried removed

@@ -16,5 +16,6 @@ pub returns-in-Err-clause-refused : goal.returns-in-Err-clause-refused
 returns-in-Err-clause-refused g c =
     let path = c.args.self.now.path.now in
     Did-if-err (IsNotTaken path c.args.was_missing) c.new_or.result
-    (λ other h. not_taken path c.args.was_missing c.in-Err.failure other c.in-Err.ensures.noted h)
+    (λ other h. not_taken path c.args.was_missing c.in-Err.failure other c.in-Err.ensures.failure
+    c.in-Err.ensures.noted h)
     c.new_or.ensures.refused

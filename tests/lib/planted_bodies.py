@@ -284,20 +284,20 @@ PLANTED = {
     "`yz_pbkdf2_derive` derives in a loop": before(
         ONE_DERIVATION,
         C_DERIVATIONS,
-        "    derive::<SSE>(algorithm, iterations, salt, secret, out)\n",
-        "for _ in 0..1 { let _ = derive::<SSE>(algorithm, iterations, salt, secret, out); }",
+        "    derive::<SSE>(algorithm, iterations, Salted { salt, secret }, out)\n",
+        "for _ in 0..1 { derive::<SSE>(algorithm, iterations, Salted { salt, secret }, out); }",
     ),
     "`yz_pbkdf2_derive_wide` tests a text by the call for it": before(
         ONE_DERIVATION,
         C_DERIVATIONS,
-        "    derive::<AVX2>(algorithm, iterations, salt, secret, out)\n",
+        "    derive::<AVX2>(algorithm, iterations, Salted { salt, secret }, out)\n",
         "let _ = crate::password_hashes::yz_password_hash_verify(salt, secret, u32::MAX);",
     ),
     "`verify` below `yz_pbkdf2_verify` derives once more by the function beside it": before(
         ONE_DERIVATION,
         C_DERIVATIONS,
         C_VERIFY_IN,
-        "let _ = derive::<VECTOR_BITS>(1, iterations.get(), salt, secret, &mut [0]);",
+        "let _ = derive::<VECTOR_BITS>(1, iterations.get(), Salted { salt, secret }, &mut [0]);",
     ),
     "`verify` below `yz_pbkdf2_verify` derives once more by a plain form": before(
         NO_PLAIN_DERIVATION,

@@ -11,16 +11,23 @@ use ring::pbkdf2::{self, max_dk_len};
 use ring::width::{AVX2, SSE};
 use std::num::NonZeroU32;
 
+// A secret and its salt.
+struct Salted<'a> {
+    salt: &'a [u8],
+    secret: &'a [u8],
+}
+
 // What `yz_pbkdf2_derive` and `yz_pbkdf2_derive_wide` promise, with vectors of `VECTOR_BITS` bits.
 fn derive<const VECTOR_BITS: usize>(
     algorithm: u32,
     iterations: u32,
-    salt: &[u8],
-    secret: &[u8],
+    salted: Salted,
     out: &mut [u8],
 ) -> i32
-    ensures { WritesKey algorithm secret.now salt.now iterations out.old out.new result }
+    ensures { WritesKey algorithm salted.entry.secret.now salted.entry.salt.now iterations
+        out.old out.new result }
 {
+    let Salted { salt, secret } = salted;
     let Some(algorithm) = pbkdf2_of_number(algorithm) else {
         return UNKNOWN_ALGORITHM;
     };
@@ -53,7 +60,7 @@ pub extern "C" fn yz_pbkdf2_derive(
 ) -> i32
     ensures { WritesKey algorithm secret.now salt.now iterations out.old out.new result }
 {
-    derive::<SSE>(algorithm, iterations, salt, secret, out)
+    derive::<SSE>(algorithm, iterations, Salted { salt, secret }, out)
 }
 
 /// Fills `out` as [`yz_pbkdf2_derive`] does from the same `algorithm`, `iterations`, `salt` and
@@ -70,19 +77,20 @@ pub extern "C" fn yz_pbkdf2_derive_wide(
 ) -> i32
     ensures { WritesKey algorithm secret.now salt.now iterations out.old out.new result }
 {
-    derive::<AVX2>(algorithm, iterations, salt, secret, out)
+    derive::<AVX2>(algorithm, iterations, Salted { salt, secret }, out)
 }
 
 // What `yz_pbkdf2_verify` and `yz_pbkdf2_verify_wide` promise, with vectors of `VECTOR_BITS` bits.
 fn verify<const VECTOR_BITS: usize>(
     algorithm: u32,
     iterations: u32,
-    salt: &[u8],
-    secret: &[u8],
+    salted: Salted,
     derived: &[u8],
 ) -> i32
-    ensures { result ≡ verify_status algorithm secret.now salt.now iterations derived.now }
+    ensures { result ≡ verify_status algorithm salted.entry.secret.now salted.entry.salt.now
+        iterations derived.now }
 {
+    let Salted { salt, secret } = salted;
     let Some(algorithm) = pbkdf2_of_number(algorithm) else {
         return UNKNOWN_ALGORITHM;
     };
@@ -114,7 +122,7 @@ pub extern "C" fn yz_pbkdf2_verify(
 ) -> i32
     ensures { result ≡ verify_status algorithm secret.now salt.now iterations derived.now }
 {
-    verify::<SSE>(algorithm, iterations, salt, secret, derived)
+    verify::<SSE>(algorithm, iterations, Salted { salt, secret }, derived)
 }
 
 /// Tests `derived` as [`yz_pbkdf2_verify`] does by the same `algorithm`, `iterations`, `salt` and
@@ -131,5 +139,5 @@ pub extern "C" fn yz_pbkdf2_verify_wide(
 ) -> i32
     ensures { result ≡ verify_status algorithm secret.now salt.now iterations derived.now }
 {
-    verify::<AVX2>(algorithm, iterations, salt, secret, derived)
+    verify::<AVX2>(algorithm, iterations, Salted { salt, secret }, derived)
 }

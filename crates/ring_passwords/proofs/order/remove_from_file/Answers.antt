@@ -98,24 +98,28 @@ returns-clause-unchanged g c =
     kept_if_not_removed c.args.path.now Global c.args.name.now c.replace.result _ _
     (returns-clause-refused g c)
 
-pub returns-in_err-look_for_links-clause-unsynced : goal.returns-in_err-look_for_links-clause-unsynced
+pub returns-in_err-look_for_links-clause-unsynced :
+    goal.returns-in_err-look_for_links-clause-unsynced
 returns-in_err-look_for_links-clause-unsynced g c =
     unsynced_if_not_removed c.args.path.now Global c.args.name.now c.from_residual.result _ _
     (returns-in_err-look_for_links-clause-refused g c)
 
 pub returns-in_err-file-clause-unsynced : goal.returns-in_err-file-clause-unsynced
 returns-in_err-file-clause-unsynced g c =
-    unsynced_if_not_removed c.args.path.now Global c.args.name.now c.from_residual-in_err-file.result _ _
+    unsynced_if_not_removed c.args.path.now Global c.args.name.now
+    c.from_residual-in_err-file.result _ _
     (returns-in_err-file-clause-refused g c)
 
 pub returns-in_err-store-clause-unsynced : goal.returns-in_err-store-clause-unsynced
 returns-in_err-store-clause-unsynced g c =
-    unsynced_if_not_removed c.args.path.now Global c.args.name.now c.from_residual-in_err-store.result _ _
+    unsynced_if_not_removed c.args.path.now Global c.args.name.now
+    c.from_residual-in_err-store.result _ _
     (returns-in_err-store-clause-refused g c)
 
 pub returns-in_err-remove-clause-unsynced : goal.returns-in_err-remove-clause-unsynced
 returns-in_err-remove-clause-unsynced g c =
-    unsynced_if_not_removed c.args.path.now Global c.args.name.now c.from_residual-in_err-remove.result _ _
+    unsynced_if_not_removed c.args.path.now Global c.args.name.now
+    c.from_residual-in_err-remove.result _ _
     (returns-in_err-remove-clause-refused g c)
 
 pub returns-clause-unsynced : goal.returns-clause-unsynced

@@ -119,6 +119,7 @@ returns-in_err-set-clause-unsynced g c =
 
 pub returns-in_err-replace-clause-unsynced : goal.returns-in_err-replace-clause-unsynced
 returns-in_err-replace-clause-unsynced g c =
-    unsynced_if_not_set c.args.path.now Global c.args.name.now c.from_residual-in_err-replace.result _ _
+    unsynced_if_not_set c.args.path.now Global c.args.name.now
+    c.from_residual-in_err-replace.result _ _
     c.args.iterations
     (returns-in_err-replace-clause-refused g c)

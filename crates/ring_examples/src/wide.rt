@@ -103,48 +103,50 @@ pub fn verify_long_key(
     )
 }
 
-/// What a login stores of eight passwords, derived side by side.
-pub fn stored_of_eight(
+/// Fills `stored` with what a login stores of as many passwords, derived side by side.
+pub fn store_each(
     iterations: NonZeroU32,
-    salts: &[&[u8]; 8],
-    passwords: &[&[u8]; 8],
-) -> Result<[[u8; SHA256_OUTPUT_LEN]; 8], Unspecified>
-    ensures ok { IfOk result (λ stored. AreDerived stored SHA256
+    salts: &[&[u8]],
+    passwords: &[&[u8]],
+    stored: &mut [[u8; SHA256_OUTPUT_LEN]],
+) -> Result<(), Unspecified>
+    ensures ok { OnOk result (AreDerived stored.new SHA256
         salts.now passwords.now (non_zero_u32_get iterations) 32) }
-    ensures refused { IsOk result ↔ CanDeriveEach SHA256 salts.now passwords.now 8 32 }
+    ensures refused { IsOk result
+        ↔ CanDeriveEach SHA256 salts.now passwords.now (length stored.old) 32 }
+    ensures unchanged { OnErr result (stored.new ≡ stored.old) }
 {
-    let mut stored = [[0; SHA256_OUTPUT_LEN]; 8];
     derive_each_in::<AVX2, SHA256_OUTPUT_LEN>(
         PBKDF2_HMAC_SHA256,
         iterations,
         salts,
         passwords,
-        &mut stored,
+        stored,
         &mut Meter::new(),
-    )?;
-    Ok(stored)
+    )
 }
 
-/// Whether each of eight passwords is the one of what was stored at its place.
-pub fn verify_eight(
+/// Sets each of `matches` to whether the password at its index is the one of what was stored there.
+pub fn match_each(
     iterations: NonZeroU32,
-    salts: &[&[u8]; 8],
-    passwords: &[&[u8]; 8],
-    stored: &[[u8; SHA256_OUTPUT_LEN]; 8],
-) -> Result<[bool; 8], Unspecified>
-    ensures ok { IfOk result (λ matches. AreVerified matches SHA256
+    salts: &[&[u8]],
+    passwords: &[&[u8]],
+    stored: &[[u8; SHA256_OUTPUT_LEN]],
+    matches: &mut [bool],
+) -> Result<(), Unspecified>
+    ensures ok { OnOk result (AreVerified matches.new SHA256
         salts.now passwords.now (non_zero_u32_get iterations) stored.now) }
-    ensures refused { IsOk result ↔ CanVerifyEach SHA256 salts.now passwords.now stored.now 8 32 }
+    ensures refused { IsOk result
+        ↔ CanVerifyEach SHA256 salts.now passwords.now stored.now (length matches.old) 32 }
+    ensures unchanged { OnErr result (matches.new ≡ matches.old) }
 {
-    let mut matches = [false; 8];
     verify_each_in::<AVX2, SHA256_OUTPUT_LEN>(
         PBKDF2_HMAC_SHA256,
         iterations,
         salts,
         passwords,
         stored,
-        &mut matches,
+        matches,
         &mut Meter::new(),
-    )?;
-    Ok(matches)
+    )
 }

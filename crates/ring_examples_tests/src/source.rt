@@ -30,10 +30,7 @@ impl SecureRandom for Listed<'_> {
     }
 
     fn fill(&mut self, dest: &mut [u8]) -> Result<(), Unspecified> {
-        if !self.is_ready(dest.len()) {
-            return Err(Unspecified);
-        }
-        let (taken, left) = self.bytes.split_at(dest.len());
+        let (taken, left) = self.bytes.split_at_checked(dest.len()).ok_or(Unspecified)?;
         dest.copy_from_slice(taken);
         self.bytes = left;
         Ok(())

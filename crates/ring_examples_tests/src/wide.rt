@@ -6,8 +6,8 @@ use crate::texts::is_hex_of;
 use ring::digest::{SHA256, digest};
 use ring::error::Unspecified;
 use ring_examples::wide::{
-    digests_of_eight, has_a_digest_each, long_key_of, stored_of_eight, verify_eight,
-    verify_long_key, write_list,
+    digests_of_eight, has_a_digest_each, long_key_of, match_each, store_each, verify_long_key,
+    write_list,
 };
 use std::num::NonZeroU32;
 
@@ -59,11 +59,13 @@ const OF_STORED: &str = "d37ce0e64d0d22ae75338cc2cde3f36705dfb328ddac60426fc4868
 #[test]
 fn eight_passwords(rt: HostRuntime) -> Result<(), Unspecified> {
     let one = NonZeroU32::MIN;
-    let stored = stored_of_eight(one, &SALTS, &PASSWORDS)?;
-    assert!(rt;
-        is_hex_of(OF_STORED, digest(&SHA256, stored.as_flattened())?.as_ref())
-            && verify_eight(one, &SALTS, &PASSWORDS, &stored)? == [true; 8]
-            && verify_eight(one, &SALTS, &SALTS, &stored)? == [false; 8]
-    );
+    let mut stored = [[0; 32]; 8];
+    store_each(one, &SALTS, &PASSWORDS, &mut stored)?;
+    assert!(rt; is_hex_of(OF_STORED, digest(&SHA256, stored.as_flattened())?.as_ref()));
+    let mut matches = [false; 8];
+    match_each(one, &SALTS, &PASSWORDS, &stored, &mut matches)?;
+    assert!(rt; matches == [true; 8]);
+    match_each(one, &SALTS, &SALTS, &stored, &mut matches)?;
+    assert!(rt; matches == [false; 8]);
     Ok(())
 }

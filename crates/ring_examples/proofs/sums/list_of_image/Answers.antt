@@ -1,6 +1,6 @@
 -- SPDX-License-Identifier: ISC
-use Rattle.std.proofs.Common.{rules, ◌≡◌, ◌++◌, [], ◌∷◌, None, Some, arith, codes, false}
-use Rattle.std.proofs.Common.{append-nil, append_assoc, inl, refl, subst}
+use Rattle.std.proofs.Common.{rules, ◌≡◌, ◌++◌, ◌∙◌, [], ◌∷◌, None, Some, arith, codes, false}
+use Rattle.std.proofs.Common.{append-nil, append_assoc, inl, refl, subst, sym}
 use Rattle.std.proofs.lemmas.List.Elements.{All-cons, All-nil}
 use Rattle.hex.specs.Hex.{IsBytes, encode_lower}
 use Rattle.ring.specs.Prelude.{bytes_of}
@@ -39,16 +39,9 @@ returns-clause-read c =
       other = λ e. cc e;
     } in
     let same : line_of false None image ++ [] ≡ c.extend_from_slice-2.new.self.items =
-    rw (
-      append-nil (line_of false None image),
-      append_assoc (encode_lower image.digest) (codes "  image.bin") (10 ∷ []),
-      c.in_ok-extend_from_slice-2.ensures.items,
-      c.in_ok-extend_from_slice.ensures.items,
-      c.new-text.ensures.items,
-      c.as_bytes.ensures.value,
-      c.in_ok-encode.ensures,
-      c.as_ref-bytes.ensures.bytes,
-    ) in
+    append-nil (line_of false None image)
+    ∙ append_assoc (encode_lower image.digest) (codes "  image.bin") (10 ∷ [])
+    ∙ sym (returns-clause-written c) in
     rw same at
     (c.lists_read_back.ensures (Some SHA256) false false None (image ∷ [])
     (All-cons P image [] can (All-nil P)) 1 Unknown (λ e. cc e))

@@ -3,7 +3,7 @@
  *
  * Written by `make generated` from the proved crate ring_c: do not edit.
  * Kit: rattle-kit-13b logic dac8208d650f15bf
- * Git trees: ring_core 5493a03d67f5 ring b4f7fd0be2c0 ring_text b637680a9628 ring_password_hash 69e825674b8e ring_merkle 5c23b84ef417 ring_schedules 89afbc8fb064 ring_tokens 77106ca2f06a ring_c 6f61b631922a
+ * Git trees: ring_core cea59fb45dc0 ring a6bdd1eb9bfb ring_text b637680a9628 ring_password_hash 9f2ce58da2d2 ring_merkle f1c32e3106f7 ring_schedules 89afbc8fb064 ring_tokens 77106ca2f06a ring_c 79f4af531afd
  * Instructions: put in the place of proved functions by instructions.py, git blob bd4cc2bd973e
  */
 
@@ -115,39 +115,39 @@ ring.digest.context.digest_counted:
 	ldp x29, x30, [sp], #48
 	ret
 L(1_0):
-	adrp x8, PAGE(L(switch.table.yz_digest_each_wide.219))
-	add x8, x8, IN_PAGE(L(switch.table.yz_digest_each_wide.219))
+	adrp x8, PAGE(L(switch.table.yz_digest_each_wide.218))
+	add x8, x8, IN_PAGE(L(switch.table.yz_digest_each_wide.218))
 	and x9, x20, #0xff
-	adrp x10, PAGE(L(switch.table.yz_digest_each_wide.220))
-	add x10, x10, IN_PAGE(L(switch.table.yz_digest_each_wide.220))
-	adrp x11, PAGE(L(switch.table.yz_digest_each_wide.221))
-	add x11, x11, IN_PAGE(L(switch.table.yz_digest_each_wide.221))
-	adrp x12, PAGE(L(switch.table.yz_digest_each_wide.222))
-	add x12, x12, IN_PAGE(L(switch.table.yz_digest_each_wide.222))
+	adrp x10, PAGE(L(switch.table.yz_digest_each_wide.219))
+	add x10, x10, IN_PAGE(L(switch.table.yz_digest_each_wide.219))
+	adrp x11, PAGE(L(switch.table.yz_digest_each_wide.220))
+	add x11, x11, IN_PAGE(L(switch.table.yz_digest_each_wide.220))
+	adrp x12, PAGE(L(switch.table.yz_digest_each_wide.221))
+	add x12, x12, IN_PAGE(L(switch.table.yz_digest_each_wide.221))
 	ldr w8, [x8, x9, lsl #2]
 	ldr w10, [x10, x9, lsl #2]
 	ldr x11, [x11, x9, lsl #3]
 	ldr x12, [x12, x9, lsl #3]
-	adrp x13, PAGE(L(switch.table.yz_digest_each_wide.223))
-	add x13, x13, IN_PAGE(L(switch.table.yz_digest_each_wide.223))
-	adrp x14, PAGE(L(switch.table.yz_digest_each_wide.224))
-	add x14, x14, IN_PAGE(L(switch.table.yz_digest_each_wide.224))
+	adrp x13, PAGE(L(switch.table.yz_digest_each_wide.222))
+	add x13, x13, IN_PAGE(L(switch.table.yz_digest_each_wide.222))
+	adrp x14, PAGE(L(switch.table.yz_digest_each_wide.223))
+	add x14, x14, IN_PAGE(L(switch.table.yz_digest_each_wide.223))
 	stp w8, w10, [sp, #80]
-	adrp x10, PAGE(L(switch.table.yz_digest_each_wide.225))
-	add x10, x10, IN_PAGE(L(switch.table.yz_digest_each_wide.225))
+	adrp x10, PAGE(L(switch.table.yz_digest_each_wide.224))
+	add x10, x10, IN_PAGE(L(switch.table.yz_digest_each_wide.224))
 	stp x11, x12, [sp, #88]
-	adrp x11, PAGE(L(switch.table.yz_digest_each_wide.226))
-	add x11, x11, IN_PAGE(L(switch.table.yz_digest_each_wide.226))
+	adrp x11, PAGE(L(switch.table.yz_digest_each_wide.225))
+	add x11, x11, IN_PAGE(L(switch.table.yz_digest_each_wide.225))
 	ldr x8, [x13, x9, lsl #3]
 	ldr x13, [x14, x9, lsl #3]
 	ldr x10, [x10, x9, lsl #3]
 	ldr x11, [x11, x9, lsl #3]
-	adrp x12, PAGE(L(switch.table.yz_digest_each_wide.228))
-	add x12, x12, IN_PAGE(L(switch.table.yz_digest_each_wide.228))
+	adrp x12, PAGE(L(switch.table.yz_digest_each_wide.227))
+	add x12, x12, IN_PAGE(L(switch.table.yz_digest_each_wide.227))
 	tst w20, #0xfe
 	stp x8, x13, [sp, #104]
-	adrp x8, PAGE(L(switch.table.yz_digest_each_wide.227))
-	add x8, x8, IN_PAGE(L(switch.table.yz_digest_each_wide.227))
+	adrp x8, PAGE(L(switch.table.yz_digest_each_wide.226))
+	add x8, x8, IN_PAGE(L(switch.table.yz_digest_each_wide.226))
 	stp x10, x11, [sp, #120]
 	mov w10, #0x80
 	mov w11, #0x40
@@ -7899,52 +7899,52 @@ L(26_6):
 	movi v0.16b, #0x36
 	ldr q5, [sp, #160]
 	and x8, x20, #0xff
-	adrp x9, PAGE(L(switch.table.yz_digest_each_wide.227))
-	add x9, x9, IN_PAGE(L(switch.table.yz_digest_each_wide.227))
-	adrp x10, PAGE(L(switch.table.yz_digest_each_wide.220))
-	add x10, x10, IN_PAGE(L(switch.table.yz_digest_each_wide.220))
+	adrp x9, PAGE(L(switch.table.yz_digest_each_wide.226))
+	add x9, x9, IN_PAGE(L(switch.table.yz_digest_each_wide.226))
+	adrp x10, PAGE(L(switch.table.yz_digest_each_wide.219))
+	add x10, x10, IN_PAGE(L(switch.table.yz_digest_each_wide.219))
 	stp q1, q2, [x25, #96]
 	ldr x11, [x9, x8, lsl #3]
 	ldp q1, q3, [sp, #128]
-	adrp x9, PAGE(L(switch.table.yz_digest_each_wide.219))
-	add x9, x9, IN_PAGE(L(switch.table.yz_digest_each_wide.219))
+	adrp x9, PAGE(L(switch.table.yz_digest_each_wide.218))
+	add x9, x9, IN_PAGE(L(switch.table.yz_digest_each_wide.218))
 	ldr w13, [x10, x8, lsl #2]
-	adrp x10, PAGE(L(switch.table.yz_digest_each_wide.223))
-	add x10, x10, IN_PAGE(L(switch.table.yz_digest_each_wide.223))
+	adrp x10, PAGE(L(switch.table.yz_digest_each_wide.222))
+	add x10, x10, IN_PAGE(L(switch.table.yz_digest_each_wide.222))
 	ldr w12, [x9, x8, lsl #2]
-	adrp x9, PAGE(L(switch.table.yz_digest_each_wide.221))
-	add x9, x9, IN_PAGE(L(switch.table.yz_digest_each_wide.221))
+	adrp x9, PAGE(L(switch.table.yz_digest_each_wide.220))
+	add x9, x9, IN_PAGE(L(switch.table.yz_digest_each_wide.220))
 	stp q1, q3, [x25, #160]
 	ldr x16, [x10, x8, lsl #3]
 	ldp q2, q1, [sp, #96]
 	ldr x14, [x9, x8, lsl #3]
 	ldp q4, q3, [x25, #96]
-	adrp x9, PAGE(L(switch.table.yz_digest_each_wide.222))
-	add x9, x9, IN_PAGE(L(switch.table.yz_digest_each_wide.222))
-	adrp x10, PAGE(L(switch.table.yz_digest_each_wide.225))
-	add x10, x10, IN_PAGE(L(switch.table.yz_digest_each_wide.225))
+	adrp x9, PAGE(L(switch.table.yz_digest_each_wide.221))
+	add x9, x9, IN_PAGE(L(switch.table.yz_digest_each_wide.221))
+	adrp x10, PAGE(L(switch.table.yz_digest_each_wide.224))
+	add x10, x10, IN_PAGE(L(switch.table.yz_digest_each_wide.224))
 	stp q2, q1, [x25, #128]
 	ldr q2, [x24, #112]
 	ldr x15, [x9, x8, lsl #3]
 	eor v4.16b, v4.16b, v0.16b
 	eor v3.16b, v3.16b, v0.16b
-	adrp x9, PAGE(L(switch.table.yz_digest_each_wide.224))
-	add x9, x9, IN_PAGE(L(switch.table.yz_digest_each_wide.224))
+	adrp x9, PAGE(L(switch.table.yz_digest_each_wide.223))
+	add x9, x9, IN_PAGE(L(switch.table.yz_digest_each_wide.223))
 	stp q5, q2, [x25, #192]
 	ldr x26, [x10, x8, lsl #3]
 	ldp q1, q5, [x25, #128]
 	ldr x23, [x9, x8, lsl #3]
 	stp q4, q3, [x25, #96]
 	ldp q2, q4, [x25, #160]
-	adrp x9, PAGE(L(switch.table.yz_digest_each_wide.226))
-	add x9, x9, IN_PAGE(L(switch.table.yz_digest_each_wide.226))
+	adrp x9, PAGE(L(switch.table.yz_digest_each_wide.225))
+	add x9, x9, IN_PAGE(L(switch.table.yz_digest_each_wide.225))
 	sub x2, x29, #0x90
 	eor v1.16b, v1.16b, v0.16b
 	eor v5.16b, v5.16b, v0.16b
 	ldr x27, [x9, x8, lsl #3]
 	eor v2.16b, v2.16b, v0.16b
-	adrp x9, PAGE(L(switch.table.yz_digest_each_wide.228))
-	add x9, x9, IN_PAGE(L(switch.table.yz_digest_each_wide.228))
+	adrp x9, PAGE(L(switch.table.yz_digest_each_wide.227))
+	add x9, x9, IN_PAGE(L(switch.table.yz_digest_each_wide.227))
 	ldr x28, [x9, x8, lsl #3]
 	sub x8, x29, #0xf0
 	mov w0, w20
@@ -11454,8 +11454,8 @@ L(63_2):
 	mov w2, #0x400
 	add x0, x0, #0x820
 	bl memset
-	adrp x8, PAGE(L(switch.table.ring_password_hash.stored.Stored.parse.195))
-	add x8, x8, IN_PAGE(L(switch.table.ring_password_hash.stored.Stored.parse.195))
+	adrp x8, PAGE(L(switch.table.ring_password_hash.stored.Stored.parse.194))
+	add x8, x8, IN_PAGE(L(switch.table.ring_password_hash.stored.Stored.parse.194))
 	ldr x8, [x8, w27, uxtw #3]
 	subs x22, x20, x8
 	b.cc L(63_1)
@@ -19573,37 +19573,37 @@ L(119_14):
 	tst x21, #0xe000000000000000
 	csel w8, wzr, w8, eq
 	tbnz w8, #0, L(119_20)
-	adrp x8, PAGE(L(switch.table.yz_digest_each_wide.219))
-	add x8, x8, IN_PAGE(L(switch.table.yz_digest_each_wide.219))
-	adrp x9, PAGE(L(switch.table.yz_digest_each_wide.220))
-	add x9, x9, IN_PAGE(L(switch.table.yz_digest_each_wide.220))
+	adrp x8, PAGE(L(switch.table.yz_digest_each_wide.218))
+	add x8, x8, IN_PAGE(L(switch.table.yz_digest_each_wide.218))
+	adrp x9, PAGE(L(switch.table.yz_digest_each_wide.219))
+	add x9, x9, IN_PAGE(L(switch.table.yz_digest_each_wide.219))
 	ldr w8, [x8, w20, uxtw #2]
-	adrp x10, PAGE(L(switch.table.yz_digest_each_wide.221))
-	add x10, x10, IN_PAGE(L(switch.table.yz_digest_each_wide.221))
+	adrp x10, PAGE(L(switch.table.yz_digest_each_wide.220))
+	add x10, x10, IN_PAGE(L(switch.table.yz_digest_each_wide.220))
 	ldr w9, [x9, w20, uxtw #2]
-	adrp x11, PAGE(L(switch.table.yz_digest_each_wide.222))
-	add x11, x11, IN_PAGE(L(switch.table.yz_digest_each_wide.222))
-	adrp x13, PAGE(L(switch.table.yz_digest_each_wide.224))
-	add x13, x13, IN_PAGE(L(switch.table.yz_digest_each_wide.224))
+	adrp x11, PAGE(L(switch.table.yz_digest_each_wide.221))
+	add x11, x11, IN_PAGE(L(switch.table.yz_digest_each_wide.221))
+	adrp x13, PAGE(L(switch.table.yz_digest_each_wide.223))
+	add x13, x13, IN_PAGE(L(switch.table.yz_digest_each_wide.223))
 	ldr x10, [x10, w20, uxtw #3]
 	ldr x11, [x11, w20, uxtw #3]
 	str w8, [sp, #1200]
-	adrp x8, PAGE(L(switch.table.yz_digest_each_wide.225))
-	add x8, x8, IN_PAGE(L(switch.table.yz_digest_each_wide.225))
+	adrp x8, PAGE(L(switch.table.yz_digest_each_wide.224))
+	add x8, x8, IN_PAGE(L(switch.table.yz_digest_each_wide.224))
 	str w9, [sp, #1204]
 	ldr x9, [x13, w20, uxtw #3]
 	ldr x8, [x8, w20, uxtw #3]
-	adrp x12, PAGE(L(switch.table.yz_digest_each_wide.223))
-	add x12, x12, IN_PAGE(L(switch.table.yz_digest_each_wide.223))
+	adrp x12, PAGE(L(switch.table.yz_digest_each_wide.222))
+	add x12, x12, IN_PAGE(L(switch.table.yz_digest_each_wide.222))
 	str x10, [sp, #1208]
-	adrp x10, PAGE(L(switch.table.yz_digest_each_wide.226))
-	add x10, x10, IN_PAGE(L(switch.table.yz_digest_each_wide.226))
+	adrp x10, PAGE(L(switch.table.yz_digest_each_wide.225))
+	add x10, x10, IN_PAGE(L(switch.table.yz_digest_each_wide.225))
 	str x11, [sp, #1216]
-	adrp x11, PAGE(L(switch.table.yz_digest_each_wide.227))
-	add x11, x11, IN_PAGE(L(switch.table.yz_digest_each_wide.227))
+	adrp x11, PAGE(L(switch.table.yz_digest_each_wide.226))
+	add x11, x11, IN_PAGE(L(switch.table.yz_digest_each_wide.226))
 	str x9, [sp, #1232]
-	adrp x9, PAGE(L(switch.table.yz_digest_each_wide.228))
-	add x9, x9, IN_PAGE(L(switch.table.yz_digest_each_wide.228))
+	adrp x9, PAGE(L(switch.table.yz_digest_each_wide.227))
+	add x9, x9, IN_PAGE(L(switch.table.yz_digest_each_wide.227))
 	ldr x12, [x12, w20, uxtw #3]
 	ldr x10, [x10, w20, uxtw #3]
 	ldr x11, [x11, w20, uxtw #3]
@@ -22609,8 +22609,8 @@ yz_jws_sign:
 	orr x10, x24, #0x2
 	csel x8, x8, x10, ne
 L(154_0):
-	adrp x25, PAGE(L(switch.table.yz_jws_sign.240))
-	add x25, x25, IN_PAGE(L(switch.table.yz_jws_sign.240))
+	adrp x25, PAGE(L(switch.table.yz_jws_sign.239))
+	add x25, x25, IN_PAGE(L(switch.table.yz_jws_sign.239))
 	mov w0, #0x4
 	ldr x10, [x25, w23, uxtw #3]
 	mvn x11, x10
@@ -27133,9 +27133,9 @@ L(switch.table.ring_password_hash.stored.Stored.parse.rel):
 	.long L(static.33)-L(switch.table.ring_password_hash.stored.Stored.parse.rel)
 	.long L(static.28)-L(switch.table.ring_password_hash.stored.Stored.parse.rel)
 
-	CONSTANTS(Lswitch.table.ring_password_hash.stored.Stored.parse.195,"a",%progbits)
+	CONSTANTS(Lswitch.table.ring_password_hash.stored.Stored.parse.194,"a",%progbits)
 	.p2align 3
-L(switch.table.ring_password_hash.stored.Stored.parse.195):
+L(switch.table.ring_password_hash.stored.Stored.parse.194):
 	.quad 0x000000000000000e, 0x000000000000000c, 0x000000000000000e, 0x000000000000000e
 	.quad 0x000000000000000f, 0x000000000000000f, 0x0000000000000003, 0x0000000000000008
 	.quad 0x000000000000000f, 0x000000000000000f, 0x000000000000000e, 0x000000000000000c
@@ -27151,63 +27151,63 @@ L(switch.table.ring.pbkdf2.derive_in.128):
 	.quad 0x00000013ffffffec, 0x0000001fffffffe0, 0x0000002fffffffd0, 0x0000003fffffffc0
 	.quad 0x0000001fffffffe0
 
-	CONSTANTS(Lswitch.table.yz_digest_each_wide.219,"a",%progbits)
+	CONSTANTS(Lswitch.table.yz_digest_each_wide.218,"a",%progbits)
 	.p2align 2
-L(switch.table.yz_digest_each_wide.219):
+L(switch.table.yz_digest_each_wide.218):
 	.long 0x00000001, 0x00000001, 0x00000000, 0x00000000
 	.long 0x00000000
 
-	CONSTANTS(Lswitch.table.yz_digest_each_wide.220,"a",%progbits)
+	CONSTANTS(Lswitch.table.yz_digest_each_wide.219,"a",%progbits)
 	.p2align 2
-L(switch.table.yz_digest_each_wide.220):
+L(switch.table.yz_digest_each_wide.219):
 	.long 0x67452301, 0x6a09e667, 0x00000000, 0x00000000
 	.long 0x00000000
+
+	CONSTANTS(Lswitch.table.yz_digest_each_wide.220,"a",%progbits)
+	.p2align 3
+L(switch.table.yz_digest_each_wide.220):
+	.quad 0x98badcfeefcdab89, 0x3c6ef372bb67ae85, 0xcbbb9d5dc1059ed8, 0x6a09e667f3bcc908
+	.quad 0x22312194fc2bf72c
 
 	CONSTANTS(Lswitch.table.yz_digest_each_wide.221,"a",%progbits)
 	.p2align 3
 L(switch.table.yz_digest_each_wide.221):
-	.quad 0x98badcfeefcdab89, 0x3c6ef372bb67ae85, 0xcbbb9d5dc1059ed8, 0x6a09e667f3bcc908
-	.quad 0x22312194fc2bf72c
+	.quad 0xc3d2e1f010325476, 0x510e527fa54ff53a, 0x629a292a367cd507, 0xbb67ae8584caa73b
+	.quad 0x9f555fa3c84c64c2
 
 	CONSTANTS(Lswitch.table.yz_digest_each_wide.222,"a",%progbits)
 	.p2align 3
 L(switch.table.yz_digest_each_wide.222):
-	.quad 0xc3d2e1f010325476, 0x510e527fa54ff53a, 0x629a292a367cd507, 0xbb67ae8584caa73b
-	.quad 0x9f555fa3c84c64c2
+	.quad 0x0000000000000000, 0x1f83d9ab9b05688c, 0x9159015a3070dd17, 0x3c6ef372fe94f82b
+	.quad 0x2393b86b6f53b151
 
 	CONSTANTS(Lswitch.table.yz_digest_each_wide.223,"a",%progbits)
 	.p2align 3
 L(switch.table.yz_digest_each_wide.223):
-	.quad 0x0000000000000000, 0x1f83d9ab9b05688c, 0x9159015a3070dd17, 0x3c6ef372fe94f82b
-	.quad 0x2393b86b6f53b151
+	.quad 0x0000000000000000, 0x000000005be0cd19, 0x152fecd8f70e5939, 0xa54ff53a5f1d36f1
+	.quad 0x963877195940eabd
 
 	CONSTANTS(Lswitch.table.yz_digest_each_wide.224,"a",%progbits)
 	.p2align 3
 L(switch.table.yz_digest_each_wide.224):
-	.quad 0x0000000000000000, 0x000000005be0cd19, 0x152fecd8f70e5939, 0xa54ff53a5f1d36f1
-	.quad 0x963877195940eabd
+	.quad 0x0000000000000000, 0x0000000000000000, 0x67332667ffc00b31, 0x510e527fade682d1
+	.quad 0x96283ee2a88effe3
 
 	CONSTANTS(Lswitch.table.yz_digest_each_wide.225,"a",%progbits)
 	.p2align 3
 L(switch.table.yz_digest_each_wide.225):
-	.quad 0x0000000000000000, 0x0000000000000000, 0x67332667ffc00b31, 0x510e527fade682d1
-	.quad 0x96283ee2a88effe3
+	.quad 0x0000000000000000, 0x0000000000000000, 0x8eb44a8768581511, 0x9b05688c2b3e6c1f
+	.quad 0xbe5e1e2553863992
 
 	CONSTANTS(Lswitch.table.yz_digest_each_wide.226,"a",%progbits)
 	.p2align 3
 L(switch.table.yz_digest_each_wide.226):
-	.quad 0x0000000000000000, 0x0000000000000000, 0x8eb44a8768581511, 0x9b05688c2b3e6c1f
-	.quad 0xbe5e1e2553863992
+	.quad 0x0000000000000000, 0x0000000000000000, 0xdb0c2e0d64f98fa7, 0x1f83d9abfb41bd6b
+	.quad 0x2b0199fc2c85b8aa
 
 	CONSTANTS(Lswitch.table.yz_digest_each_wide.227,"a",%progbits)
 	.p2align 3
 L(switch.table.yz_digest_each_wide.227):
-	.quad 0x0000000000000000, 0x0000000000000000, 0xdb0c2e0d64f98fa7, 0x1f83d9abfb41bd6b
-	.quad 0x2b0199fc2c85b8aa
-
-	CONSTANTS(Lswitch.table.yz_digest_each_wide.228,"a",%progbits)
-	.p2align 3
-L(switch.table.yz_digest_each_wide.228):
 	.quad 0x0000000000000000, 0x0000000000000000, 0x47b5481dbefa4fa4, 0x5be0cd19137e2179
 	.quad 0x0eb72ddc81c52ca2
 
@@ -27226,9 +27226,9 @@ L(switch.table.yz_hmac_final):
 	.quad 0x0000000000000040, 0x0000000000000040, 0x0000000000000080, 0x0000000000000080
 	.quad 0x0000000000000080
 
-	CONSTANTS(Lswitch.table.yz_jws_sign.240,"a",%progbits)
+	CONSTANTS(Lswitch.table.yz_jws_sign.239,"a",%progbits)
 	.p2align 3
-L(switch.table.yz_jws_sign.240):
+L(switch.table.yz_jws_sign.239):
 	.quad 0x0000000000000051, 0x0000000000000066, 0x000000000000007c
 
 	CONSTANTS(Lswitch.table.yz_password_hash_verify,"a",%progbits)
@@ -27250,14 +27250,14 @@ L(266_0):
 	.quad L(static.12)
 	.quad L(static.13)
 
-	ADDRESSES(Lswitch.table.yz_jws_verify.242)
+	ADDRESSES(Lswitch.table.yz_jws_verify.241)
 	.p2align 3
 L(268_0):
 	.quad L(static.14)
 	.quad L(static.15)
 	.quad L(static.16)
 
-	ADDRESSES(Lswitch.table.yz_jws_verify.243)
+	ADDRESSES(Lswitch.table.yz_jws_verify.242)
 	.p2align 3
 L(270_0):
 	.quad L(static.17)

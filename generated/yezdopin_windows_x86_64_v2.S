@@ -3,7 +3,7 @@
  *
  * Written by `make generated` from the proved crate ring_c: do not edit.
  * Kit: rattle-kit-13b logic dac8208d650f15bf
- * Git trees: ring_core 5493a03d67f5 ring b4f7fd0be2c0 ring_text b637680a9628 ring_password_hash 69e825674b8e ring_merkle 5c23b84ef417 ring_schedules 89afbc8fb064 ring_tokens 77106ca2f06a ring_c 6f61b631922a
+ * Git trees: ring_core cea59fb45dc0 ring a6bdd1eb9bfb ring_text b637680a9628 ring_password_hash 9f2ce58da2d2 ring_merkle f1c32e3106f7 ring_schedules 89afbc8fb064 ring_tokens 77106ca2f06a ring_c 79f4af531afd
  * Instructions: put in the place of proved functions by instructions.py, git blob bd4cc2bd973e
  */
 
@@ -55,26 +55,26 @@ ring.digest.context.digest_counted:
 	setae %cl
 	movzbl %dl, %eax
 	leal (,%rax,4), %r10d
-	leaq .Lswitch.table.v2_yz_digest_each.184(%rip), %r11
+	leaq .Lswitch.table.v2_yz_digest_each.183(%rip), %r11
 	movl (%r10,%r11), %r8d
-	leaq .Lswitch.table.v2_yz_digest_each.185(%rip), %rdi
+	leaq .Lswitch.table.v2_yz_digest_each.184(%rip), %rdi
 	movl (%r10,%rdi), %r10d
 	shll $3, %eax
-	leaq .Lswitch.table.v2_yz_digest_each.186(%rip), %rdi
+	leaq .Lswitch.table.v2_yz_digest_each.185(%rip), %rdi
 	movq (%rax,%rdi), %rdi
-	leaq .Lswitch.table.v2_yz_digest_each.187(%rip), %r14
+	leaq .Lswitch.table.v2_yz_digest_each.186(%rip), %r14
 	movq (%rax,%r14), %r14
-	leaq .Lswitch.table.v2_yz_digest_each.188(%rip), %r15
+	leaq .Lswitch.table.v2_yz_digest_each.187(%rip), %r15
 	movq (%rax,%r15), %r15
-	leaq .Lswitch.table.v2_yz_digest_each.189(%rip), %r12
+	leaq .Lswitch.table.v2_yz_digest_each.188(%rip), %r12
 	movq (%rax,%r12), %r12
-	leaq .Lswitch.table.v2_yz_digest_each.190(%rip), %r13
+	leaq .Lswitch.table.v2_yz_digest_each.189(%rip), %r13
 	movq (%rax,%r13), %r13
-	leaq .Lswitch.table.v2_yz_digest_each.191(%rip), %rbp
+	leaq .Lswitch.table.v2_yz_digest_each.190(%rip), %rbp
 	movq (%rax,%rbp), %rbp
-	leaq .Lswitch.table.v2_yz_digest_each.192(%rip), %rbx
+	leaq .Lswitch.table.v2_yz_digest_each.191(%rip), %rbx
 	movq (%rax,%rbx), %rbx
-	leaq .Lswitch.table.v2_yz_digest_each.193(%rip), %r11
+	leaq .Lswitch.table.v2_yz_digest_each.192(%rip), %r11
 	movq (%rax,%r11), %rax
 	movaps %xmm0, 64(%rsp)
 	movl %r8d, 80(%rsp)
@@ -10440,32 +10440,32 @@ ring.hmac.key.Key.new_counted:
 	movaps %xmm0, 496(%rsp)
 	movzbl %r13b, %eax
 	leal (,%rax,4), %ecx
-	leaq .Lswitch.table.v2_yz_digest_each.184(%rip), %rdx
+	leaq .Lswitch.table.v2_yz_digest_each.183(%rip), %rdx
 	movl (%rcx,%rdx), %r8d
 	movl %r8d, 152(%rsp)
-	leaq .Lswitch.table.v2_yz_digest_each.185(%rip), %rdx
+	leaq .Lswitch.table.v2_yz_digest_each.184(%rip), %rdx
 	movl (%rcx,%rdx), %r9d
 	movl %r9d, 148(%rsp)
 	shll $3, %eax
-	leaq .Lswitch.table.v2_yz_digest_each.186(%rip), %rcx
+	leaq .Lswitch.table.v2_yz_digest_each.185(%rip), %rcx
 	movq (%rax,%rcx), %r10
 	movq %r10, 376(%rsp)
-	leaq .Lswitch.table.v2_yz_digest_each.187(%rip), %rcx
+	leaq .Lswitch.table.v2_yz_digest_each.186(%rip), %rcx
 	movq (%rax,%rcx), %r11
 	movq %r11, 368(%rsp)
-	leaq .Lswitch.table.v2_yz_digest_each.188(%rip), %rcx
+	leaq .Lswitch.table.v2_yz_digest_each.187(%rip), %rcx
 	movq (%rax,%rcx), %r14
 	movq %r14, 360(%rsp)
-	leaq .Lswitch.table.v2_yz_digest_each.189(%rip), %rcx
+	leaq .Lswitch.table.v2_yz_digest_each.188(%rip), %rcx
 	movq (%rax,%rcx), %rbp
 	movq %rbp, 352(%rsp)
-	leaq .Lswitch.table.v2_yz_digest_each.190(%rip), %rcx
+	leaq .Lswitch.table.v2_yz_digest_each.189(%rip), %rcx
 	movq (%rax,%rcx), %rbx
-	leaq .Lswitch.table.v2_yz_digest_each.191(%rip), %rcx
+	leaq .Lswitch.table.v2_yz_digest_each.190(%rip), %rcx
 	movq (%rax,%rcx), %r12
-	leaq .Lswitch.table.v2_yz_digest_each.192(%rip), %rcx
+	leaq .Lswitch.table.v2_yz_digest_each.191(%rip), %rcx
 	movq (%rax,%rcx), %r15
-	leaq .Lswitch.table.v2_yz_digest_each.193(%rip), %rcx
+	leaq .Lswitch.table.v2_yz_digest_each.192(%rip), %rcx
 	movq (%rax,%rcx), %rax
 	movaps %xmm6, 48(%rsp)
 	leaq 64(%rsp), %rdx
@@ -14830,7 +14830,7 @@ ring_password_hash.stored.Stored.parse:
 	movl $1024, %r8d
 	xorl %edx, %edx
 	callq memset
-	leaq .Lswitch.table.ring_password_hash.stored.Stored.parse.171(%rip), %rax
+	leaq .Lswitch.table.ring_password_hash.stored.Stored.parse.170(%rip), %rax
 	movq (%rax,%rsi,8), %rax
 	movq %rdi, %r14
 	subq %rax, %r14
@@ -27033,26 +27033,26 @@ v2_yz_digest_each:
 	seta %cl
 	testb %cl, 60(%rsp)
 	jne .LBB63_102
-	leaq .Lswitch.table.v2_yz_digest_each.184(%rip), %rcx
+	leaq .Lswitch.table.v2_yz_digest_each.183(%rip), %rcx
 	movq 312(%rsp), %r12
 	movl (%rcx,%r12,4), %ecx
-	leaq .Lswitch.table.v2_yz_digest_each.185(%rip), %rdx
+	leaq .Lswitch.table.v2_yz_digest_each.184(%rip), %rdx
 	movl (%rdx,%r12,4), %edx
-	leaq .Lswitch.table.v2_yz_digest_each.186(%rip), %r8
+	leaq .Lswitch.table.v2_yz_digest_each.185(%rip), %r8
 	movq (%r8,%r12,8), %r8
-	leaq .Lswitch.table.v2_yz_digest_each.187(%rip), %r9
+	leaq .Lswitch.table.v2_yz_digest_each.186(%rip), %r9
 	movq (%r9,%r12,8), %r9
-	leaq .Lswitch.table.v2_yz_digest_each.188(%rip), %r10
+	leaq .Lswitch.table.v2_yz_digest_each.187(%rip), %r10
 	movq (%r10,%r12,8), %r10
-	leaq .Lswitch.table.v2_yz_digest_each.189(%rip), %r11
+	leaq .Lswitch.table.v2_yz_digest_each.188(%rip), %r11
 	movq (%r11,%r12,8), %r11
-	leaq .Lswitch.table.v2_yz_digest_each.190(%rip), %rdi
+	leaq .Lswitch.table.v2_yz_digest_each.189(%rip), %rdi
 	movq (%rdi,%r12,8), %rdi
-	leaq .Lswitch.table.v2_yz_digest_each.191(%rip), %rbx
+	leaq .Lswitch.table.v2_yz_digest_each.190(%rip), %rbx
 	movq (%rbx,%r12,8), %rbx
-	leaq .Lswitch.table.v2_yz_digest_each.192(%rip), %r14
+	leaq .Lswitch.table.v2_yz_digest_each.191(%rip), %r14
 	movq (%r14,%r12,8), %r14
-	leaq .Lswitch.table.v2_yz_digest_each.193(%rip), %r15
+	leaq .Lswitch.table.v2_yz_digest_each.192(%rip), %r15
 	movq (%r15,%r12,8), %r15
 	movdqa %xmm0, 320(%rsp)
 	movl %ecx, 336(%rsp)
@@ -31273,7 +31273,7 @@ v2_yz_jws_sign:
 	orq $3, %rdi
 .LBB82_6:
 	movl %ecx, %r15d
-	leaq .Lswitch.table.v2_yz_jws_sign.207(%rip), %r12
+	leaq .Lswitch.table.v2_yz_jws_sign.206(%rip), %r12
 	movq %r15, 56(%rsp)
 	movq (%r12,%r15,8), %r12
 	movq %r12, %r15
@@ -31382,7 +31382,7 @@ v2_yz_jws_sign:
 .LBB82_15:
 	movq 848(%rsp), %r14
 	movq 56(%rsp), %rdx
-	leaq .Lswitch.table.v2_yz_jws_sign.207(%rip), %r8
+	leaq .Lswitch.table.v2_yz_jws_sign.206(%rip), %r8
 	addq (%r8,%rdx,8), %rcx
 	jb .LBB82_29
 	cmpq %rcx, %r14
@@ -31887,7 +31887,7 @@ v2_yz_jws_verify:
 .LBB83_65:
 	cmpq $36, 48(%rsp)
 	jne .LBB83_102
-	leaq .Lswitch.table.v2_yz_jws_verify.209(%rip), %rcx
+	leaq .Lswitch.table.v2_yz_jws_verify.208(%rip), %rcx
 	movq (%rcx,%rax,8), %rcx
 	movq 40(%rsp), %rdx
 	movzbl (%rdx), %edx
@@ -32036,7 +32036,7 @@ v2_yz_jws_verify:
 .LBB83_102:
 	cmpq $20, 48(%rsp)
 	jne .LBB83_4
-	leaq .Lswitch.table.v2_yz_jws_verify.210(%rip), %rcx
+	leaq .Lswitch.table.v2_yz_jws_verify.209(%rip), %rcx
 	movq (%rcx,%rax,8), %rax
 	movq 40(%rsp), %rcx
 	movzbl (%rcx), %ecx
@@ -35293,7 +35293,7 @@ v2_yz_webhook_verify_stripe:
 	.long .Lstatic.33-.Lswitch.table.ring_password_hash.stored.Stored.parse.rel
 	.long .Lstatic.28-.Lswitch.table.ring_password_hash.stored.Stored.parse.rel
 	.p2align 3, 0x0
-.Lswitch.table.ring_password_hash.stored.Stored.parse.171:
+.Lswitch.table.ring_password_hash.stored.Stored.parse.170:
 	.quad 14
 	.quad 12
 	.quad 14
@@ -35316,70 +35316,70 @@ v2_yz_webhook_verify_stripe:
 	.quad 274877906880
 	.quad 137438953440
 	.p2align 2, 0x0
-.Lswitch.table.v2_yz_digest_each.184:
+.Lswitch.table.v2_yz_digest_each.183:
 	.long 1
 	.long 1
 	.long 0
 	.long 0
 	.long 0
 	.p2align 2, 0x0
-.Lswitch.table.v2_yz_digest_each.185:
+.Lswitch.table.v2_yz_digest_each.184:
 	.long 1732584193
 	.long 1779033703
 	.long 0
 	.long 0
 	.long 0
 	.p2align 3, 0x0
-.Lswitch.table.v2_yz_digest_each.186:
+.Lswitch.table.v2_yz_digest_each.185:
 	.quad -7441392446773286007
 	.quad 4354685563809803909
 	.quad -3766243637369397544
 	.quad 7640891576956012808
 	.quad 2463787394917988140
 	.p2align 3, 0x0
-.Lswitch.table.v2_yz_digest_each.187:
+.Lswitch.table.v2_yz_digest_each.186:
 	.quad -4336155070024231818
 	.quad 5840696474933916986
 	.quad 7105036623409894663
 	.quad -4942790177534073029
 	.quad -6965556091613846334
 	.p2align 3, 0x0
-.Lswitch.table.v2_yz_digest_each.188:
+.Lswitch.table.v2_yz_digest_each.187:
 	.quad 0
 	.quad 2270897968188319884
 	.quad -7973340178411365097
 	.quad 4354685564936845355
 	.quad 2563595384472711505
 	.p2align 3, 0x0
-.Lswitch.table.v2_yz_digest_each.189:
+.Lswitch.table.v2_yz_digest_each.188:
 	.quad 0
 	.quad 1541459225
 	.quad 1526699215303891257
 	.quad -6534734903238641935
 	.quad -7622211418569250115
 	.p2align 3, 0x0
-.Lswitch.table.v2_yz_digest_each.190:
+.Lswitch.table.v2_yz_digest_each.189:
 	.quad 0
 	.quad 0
 	.quad 7436329637833083697
 	.quad 5840696475078001361
 	.quad -7626776825740460061
 	.p2align 3, 0x0
-.Lswitch.table.v2_yz_digest_each.191:
+.Lswitch.table.v2_yz_digest_each.190:
 	.quad 0
 	.quad 0
 	.quad -8163818279084223215
 	.quad -7276294671716946913
 	.quad -4729309413028513390
 	.p2align 3, 0x0
-.Lswitch.table.v2_yz_digest_each.192:
+.Lswitch.table.v2_yz_digest_each.191:
 	.quad 0
 	.quad 0
 	.quad -2662702644619276377
 	.quad 2270897969802886507
 	.quad 3098927326965381290
 	.p2align 3, 0x0
-.Lswitch.table.v2_yz_digest_each.193:
+.Lswitch.table.v2_yz_digest_each.192:
 	.quad 0
 	.quad 0
 	.quad 5167115440072839076
@@ -35399,7 +35399,7 @@ v2_yz_webhook_verify_stripe:
 	.quad 128
 	.quad 128
 	.p2align 3, 0x0
-.Lswitch.table.v2_yz_jws_sign.207:
+.Lswitch.table.v2_yz_jws_sign.206:
 	.quad 81
 	.quad 102
 	.quad 124
@@ -35409,12 +35409,12 @@ v2_yz_webhook_verify_stripe:
 	.quad .Lstatic.12
 	.quad .Lstatic.13
 	.p2align 3, 0x0
-.Lswitch.table.v2_yz_jws_verify.209:
+.Lswitch.table.v2_yz_jws_verify.208:
 	.quad .Lstatic.14
 	.quad .Lstatic.15
 	.quad .Lstatic.16
 	.p2align 3, 0x0
-.Lswitch.table.v2_yz_jws_verify.210:
+.Lswitch.table.v2_yz_jws_verify.209:
 	.quad .Lstatic.17
 	.quad .Lstatic.18
 	.quad .Lstatic.19

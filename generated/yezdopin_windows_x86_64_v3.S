@@ -3,7 +3,7 @@
  *
  * Written by `make generated` from the proved crate ring_c: do not edit.
  * Kit: rattle-kit-13b logic dac8208d650f15bf
- * Git trees: ring_core 5493a03d67f5 ring b4f7fd0be2c0 ring_text b637680a9628 ring_password_hash 69e825674b8e ring_merkle 5c23b84ef417 ring_schedules 89afbc8fb064 ring_tokens 77106ca2f06a ring_c 6f61b631922a
+ * Git trees: ring_core cea59fb45dc0 ring a6bdd1eb9bfb ring_text b637680a9628 ring_password_hash 9f2ce58da2d2 ring_merkle f1c32e3106f7 ring_schedules 89afbc8fb064 ring_tokens 77106ca2f06a ring_c 79f4af531afd
  * Rounds: in the form chosen by instructions.py, git blob bd4cc2bd973e
  */
 
@@ -54,26 +54,26 @@ ring.digest.context.digest_counted:
 	setae %cl
 	movzbl %dl, %eax
 	leal (,%rax,4), %r10d
-	leaq .Lswitch.table.v3_yz_digest_each_wide.174(%rip), %r11
+	leaq .Lswitch.table.v3_yz_digest_each_wide.173(%rip), %r11
 	movl (%r10,%r11), %r8d
-	leaq .Lswitch.table.v3_yz_digest_each_wide.175(%rip), %rdi
+	leaq .Lswitch.table.v3_yz_digest_each_wide.174(%rip), %rdi
 	movl (%r10,%rdi), %r10d
 	shll $3, %eax
-	leaq .Lswitch.table.v3_yz_digest_each_wide.176(%rip), %rdi
+	leaq .Lswitch.table.v3_yz_digest_each_wide.175(%rip), %rdi
 	movq (%rax,%rdi), %rdi
-	leaq .Lswitch.table.v3_yz_digest_each_wide.177(%rip), %r14
+	leaq .Lswitch.table.v3_yz_digest_each_wide.176(%rip), %r14
 	movq (%rax,%r14), %r14
-	leaq .Lswitch.table.v3_yz_digest_each_wide.178(%rip), %r15
+	leaq .Lswitch.table.v3_yz_digest_each_wide.177(%rip), %r15
 	movq (%rax,%r15), %r15
-	leaq .Lswitch.table.v3_yz_digest_each_wide.179(%rip), %r12
+	leaq .Lswitch.table.v3_yz_digest_each_wide.178(%rip), %r12
 	movq (%rax,%r12), %r12
-	leaq .Lswitch.table.v3_yz_digest_each_wide.180(%rip), %r13
+	leaq .Lswitch.table.v3_yz_digest_each_wide.179(%rip), %r13
 	movq (%rax,%r13), %r13
-	leaq .Lswitch.table.v3_yz_digest_each_wide.181(%rip), %rbp
+	leaq .Lswitch.table.v3_yz_digest_each_wide.180(%rip), %rbp
 	movq (%rax,%rbp), %rbp
-	leaq .Lswitch.table.v3_yz_digest_each_wide.182(%rip), %rbx
+	leaq .Lswitch.table.v3_yz_digest_each_wide.181(%rip), %rbx
 	movq (%rax,%rbx), %rbx
-	leaq .Lswitch.table.v3_yz_digest_each_wide.183(%rip), %r11
+	leaq .Lswitch.table.v3_yz_digest_each_wide.182(%rip), %r11
 	movq (%rax,%r11), %rax
 	shll $6, %ecx
 	vmovaps %xmm0, 64(%rsp)
@@ -11196,13 +11196,13 @@ ring.digest.each.digest_in_lanes.8d8d542e76d4c528:
 	movzbl %al, %eax
 	shll $3, %eax
 	leaq .Lswitch.table.ring.digest.each.digest_in_lanes.8d8d542e76d4c528(%rip), %rcx
-	leaq .Lswitch.table.ring.digest.each.digest_in_lanes.8d8d542e76d4c528.135(%rip), %rdx
-	leaq .Lswitch.table.ring.digest.each.digest_in_lanes.8d8d542e76d4c528.136(%rip), %r8
-	leaq .Lswitch.table.ring.digest.each.digest_in_lanes.8d8d542e76d4c528.137(%rip), %r9
-	leaq .Lswitch.table.ring.digest.each.digest_in_lanes.8d8d542e76d4c528.138(%rip), %r10
-	leaq .Lswitch.table.ring.digest.each.digest_in_lanes.8d8d542e76d4c528.139(%rip), %r11
-	leaq .Lswitch.table.ring.digest.each.digest_in_lanes.8d8d542e76d4c528.140(%rip), %rsi
-	leaq .Lswitch.table.ring.digest.each.digest_in_lanes.8d8d542e76d4c528.141(%rip), %rdi
+	leaq .Lswitch.table.ring.digest.each.digest_in_lanes.8d8d542e76d4c528.134(%rip), %rdx
+	leaq .Lswitch.table.ring.digest.each.digest_in_lanes.8d8d542e76d4c528.135(%rip), %r8
+	leaq .Lswitch.table.ring.digest.each.digest_in_lanes.8d8d542e76d4c528.136(%rip), %r9
+	leaq .Lswitch.table.ring.digest.each.digest_in_lanes.8d8d542e76d4c528.137(%rip), %r10
+	leaq .Lswitch.table.ring.digest.each.digest_in_lanes.8d8d542e76d4c528.138(%rip), %r11
+	leaq .Lswitch.table.ring.digest.each.digest_in_lanes.8d8d542e76d4c528.139(%rip), %rsi
+	leaq .Lswitch.table.ring.digest.each.digest_in_lanes.8d8d542e76d4c528.140(%rip), %rdi
 	vbroadcastsd (%rax,%rcx), %ymm0
 	vmovups %ymm0, 1696(%rsp)
 	vbroadcastsd (%rax,%rdx), %ymm0
@@ -14266,32 +14266,32 @@ ring.hmac.key.Key.new_counted:
 	vmovups %ymm0, 336(%rsp)
 	movzbl %r15b, %eax
 	leal (,%rax,4), %ecx
-	leaq .Lswitch.table.v3_yz_digest_each_wide.174(%rip), %rdx
+	leaq .Lswitch.table.v3_yz_digest_each_wide.173(%rip), %rdx
 	movl (%rcx,%rdx), %r8d
 	movl %r8d, 152(%rsp)
-	leaq .Lswitch.table.v3_yz_digest_each_wide.175(%rip), %rdx
+	leaq .Lswitch.table.v3_yz_digest_each_wide.174(%rip), %rdx
 	movl (%rcx,%rdx), %r9d
 	movl %r9d, 148(%rsp)
 	shll $3, %eax
-	leaq .Lswitch.table.v3_yz_digest_each_wide.176(%rip), %rcx
+	leaq .Lswitch.table.v3_yz_digest_each_wide.175(%rip), %rcx
 	movq (%rax,%rcx), %r10
 	movq %r10, 200(%rsp)
-	leaq .Lswitch.table.v3_yz_digest_each_wide.177(%rip), %rcx
+	leaq .Lswitch.table.v3_yz_digest_each_wide.176(%rip), %rcx
 	movq (%rax,%rcx), %r11
 	movq %r11, 192(%rsp)
-	leaq .Lswitch.table.v3_yz_digest_each_wide.178(%rip), %rcx
+	leaq .Lswitch.table.v3_yz_digest_each_wide.177(%rip), %rcx
 	movq (%rax,%rcx), %rbp
 	movq %rbp, 184(%rsp)
-	leaq .Lswitch.table.v3_yz_digest_each_wide.179(%rip), %rcx
+	leaq .Lswitch.table.v3_yz_digest_each_wide.178(%rip), %rcx
 	movq (%rax,%rcx), %r13
 	movq %r13, 176(%rsp)
-	leaq .Lswitch.table.v3_yz_digest_each_wide.180(%rip), %rcx
+	leaq .Lswitch.table.v3_yz_digest_each_wide.179(%rip), %rcx
 	movq (%rax,%rcx), %rbx
-	leaq .Lswitch.table.v3_yz_digest_each_wide.181(%rip), %rcx
+	leaq .Lswitch.table.v3_yz_digest_each_wide.180(%rip), %rcx
 	movq (%rax,%rcx), %r14
-	leaq .Lswitch.table.v3_yz_digest_each_wide.182(%rip), %rcx
+	leaq .Lswitch.table.v3_yz_digest_each_wide.181(%rip), %rcx
 	movq (%rax,%rcx), %r12
-	leaq .Lswitch.table.v3_yz_digest_each_wide.183(%rip), %rcx
+	leaq .Lswitch.table.v3_yz_digest_each_wide.182(%rip), %rcx
 	movq (%rax,%rcx), %rax
 	leaq 64(%rsp), %rdx
 	vmovaps %xmm6, 48(%rsp)
@@ -19783,7 +19783,7 @@ ring_password_hash.stored.put_text:
 .LBB38_36:
 	movq 152(%rsp), %rax
 	movq 144(%rsp), %r9
-	leaq .Lswitch.table.v3_yz_password_hash_verify.202(%rip), %rcx
+	leaq .Lswitch.table.v3_yz_password_hash_verify.201(%rip), %rcx
 	movzbl (%r12,%rcx), %r8d
 	movq %rax, 32(%rsp)
 	movq %rsi, %rcx
@@ -39882,26 +39882,26 @@ v3_yz_digest_each_wide:
 	seta %cl
 	testb %cl, %dil
 	jne .LBB76_187
-	leaq .Lswitch.table.v3_yz_digest_each_wide.174(%rip), %rcx
+	leaq .Lswitch.table.v3_yz_digest_each_wide.173(%rip), %rcx
 	movq 1072(%rsp), %rbp
 	movl (%rcx,%rbp,4), %ecx
-	leaq .Lswitch.table.v3_yz_digest_each_wide.175(%rip), %rdx
+	leaq .Lswitch.table.v3_yz_digest_each_wide.174(%rip), %rdx
 	movl (%rdx,%rbp,4), %edx
-	leaq .Lswitch.table.v3_yz_digest_each_wide.176(%rip), %r8
+	leaq .Lswitch.table.v3_yz_digest_each_wide.175(%rip), %r8
 	movq (%r8,%rbp,8), %r8
-	leaq .Lswitch.table.v3_yz_digest_each_wide.177(%rip), %r9
+	leaq .Lswitch.table.v3_yz_digest_each_wide.176(%rip), %r9
 	movq (%r9,%rbp,8), %r9
-	leaq .Lswitch.table.v3_yz_digest_each_wide.178(%rip), %r10
+	leaq .Lswitch.table.v3_yz_digest_each_wide.177(%rip), %r10
 	movq (%r10,%rbp,8), %r10
-	leaq .Lswitch.table.v3_yz_digest_each_wide.179(%rip), %r11
+	leaq .Lswitch.table.v3_yz_digest_each_wide.178(%rip), %r11
 	movq (%r11,%rbp,8), %r11
-	leaq .Lswitch.table.v3_yz_digest_each_wide.180(%rip), %rdi
+	leaq .Lswitch.table.v3_yz_digest_each_wide.179(%rip), %rdi
 	movq (%rdi,%rbp,8), %rdi
-	leaq .Lswitch.table.v3_yz_digest_each_wide.181(%rip), %rbx
+	leaq .Lswitch.table.v3_yz_digest_each_wide.180(%rip), %rbx
 	movq (%rbx,%rbp,8), %rbx
-	leaq .Lswitch.table.v3_yz_digest_each_wide.182(%rip), %r15
+	leaq .Lswitch.table.v3_yz_digest_each_wide.181(%rip), %r15
 	movq (%r15,%rbp,8), %r15
-	leaq .Lswitch.table.v3_yz_digest_each_wide.183(%rip), %r12
+	leaq .Lswitch.table.v3_yz_digest_each_wide.182(%rip), %r12
 	movq (%r12,%rbp,8), %r12
 	vmovdqa %xmm0, 128(%rsp)
 	movl %ecx, 144(%rsp)
@@ -45410,7 +45410,7 @@ v3_yz_jws_sign:
 	orq $3, %r13
 .LBB92_6:
 	movl %ecx, %edx
-	leaq .Lswitch.table.v3_yz_jws_sign.197(%rip), %r14
+	leaq .Lswitch.table.v3_yz_jws_sign.196(%rip), %r14
 	movq %rdx, 56(%rsp)
 	movq (%r14,%rdx,8), %r15
 	movq %r15, %r14
@@ -45532,7 +45532,7 @@ v3_yz_jws_sign:
 	orq $3, %rbp
 .LBB92_13:
 	movq 56(%rsp), %r8
-	leaq .Lswitch.table.v3_yz_jws_sign.197(%rip), %r10
+	leaq .Lswitch.table.v3_yz_jws_sign.196(%rip), %r10
 	addq (%r10,%r8,8), %rbp
 	jb .LBB92_27
 	cmpq %rbp, %r15
@@ -46035,7 +46035,7 @@ v3_yz_jws_verify:
 .LBB93_65:
 	cmpq $36, 56(%rsp)
 	jne .LBB93_102
-	leaq .Lswitch.table.v3_yz_jws_verify.199(%rip), %rcx
+	leaq .Lswitch.table.v3_yz_jws_verify.198(%rip), %rcx
 	movq (%rcx,%rax,8), %rcx
 	movq 48(%rsp), %rdx
 	movzbl (%rdx), %edx
@@ -46184,7 +46184,7 @@ v3_yz_jws_verify:
 .LBB93_102:
 	cmpq $20, 56(%rsp)
 	jne .LBB93_4
-	leaq .Lswitch.table.v3_yz_jws_verify.200(%rip), %rcx
+	leaq .Lswitch.table.v3_yz_jws_verify.199(%rip), %rcx
 	movq (%rcx,%rax,8), %rax
 	movq 48(%rsp), %rcx
 	movzbl (%rcx), %ecx
@@ -47218,7 +47218,7 @@ v3_yz_password_hash_verify:
 	movl $1024, %r8d
 	xorl %edx, %edx
 	callq memset
-	leaq .Lswitch.table.v3_yz_password_hash_verify.201(%rip), %rax
+	leaq .Lswitch.table.v3_yz_password_hash_verify.200(%rip), %rax
 	movq (%rax,%r15,8), %rax
 	movq %rbx, %r12
 	subq %rax, %r12
@@ -47362,7 +47362,7 @@ v3_yz_password_hash_verify:
 	movl $1024, %r8d
 	xorl %edx, %edx
 	callq memset
-	leaq .Lswitch.table.v3_yz_password_hash_verify.202(%rip), %rax
+	leaq .Lswitch.table.v3_yz_password_hash_verify.201(%rip), %rax
 	movzbl (%r15,%rax), %esi
 	vpxor %xmm0, %xmm0, %xmm0
 	movq $0, 544(%rsp)
@@ -50004,37 +50004,37 @@ v3_yz_webhook_verify_stripe:
 	.quad 7640891576956012808
 	.quad 2463787394917988140
 	.p2align 3, 0x0
-.Lswitch.table.ring.digest.each.digest_in_lanes.8d8d542e76d4c528.135:
+.Lswitch.table.ring.digest.each.digest_in_lanes.8d8d542e76d4c528.134:
 	.quad 7105036623409894663
 	.quad -4942790177534073029
 	.quad -6965556091613846334
 	.p2align 3, 0x0
-.Lswitch.table.ring.digest.each.digest_in_lanes.8d8d542e76d4c528.136:
+.Lswitch.table.ring.digest.each.digest_in_lanes.8d8d542e76d4c528.135:
 	.quad -7973340178411365097
 	.quad 4354685564936845355
 	.quad 2563595384472711505
 	.p2align 3, 0x0
-.Lswitch.table.ring.digest.each.digest_in_lanes.8d8d542e76d4c528.137:
+.Lswitch.table.ring.digest.each.digest_in_lanes.8d8d542e76d4c528.136:
 	.quad 1526699215303891257
 	.quad -6534734903238641935
 	.quad -7622211418569250115
 	.p2align 3, 0x0
-.Lswitch.table.ring.digest.each.digest_in_lanes.8d8d542e76d4c528.138:
+.Lswitch.table.ring.digest.each.digest_in_lanes.8d8d542e76d4c528.137:
 	.quad 7436329637833083697
 	.quad 5840696475078001361
 	.quad -7626776825740460061
 	.p2align 3, 0x0
-.Lswitch.table.ring.digest.each.digest_in_lanes.8d8d542e76d4c528.139:
+.Lswitch.table.ring.digest.each.digest_in_lanes.8d8d542e76d4c528.138:
 	.quad -8163818279084223215
 	.quad -7276294671716946913
 	.quad -4729309413028513390
 	.p2align 3, 0x0
-.Lswitch.table.ring.digest.each.digest_in_lanes.8d8d542e76d4c528.140:
+.Lswitch.table.ring.digest.each.digest_in_lanes.8d8d542e76d4c528.139:
 	.quad -2662702644619276377
 	.quad 2270897969802886507
 	.quad 3098927326965381290
 	.p2align 3, 0x0
-.Lswitch.table.ring.digest.each.digest_in_lanes.8d8d542e76d4c528.141:
+.Lswitch.table.ring.digest.each.digest_in_lanes.8d8d542e76d4c528.140:
 	.quad 5167115440072839076
 	.quad 6620516959819538809
 	.quad 1060366662362279074
@@ -50058,70 +50058,70 @@ v3_yz_webhook_verify_stripe:
 	.quad 274877906880
 	.quad 137438953440
 	.p2align 2, 0x0
-.Lswitch.table.v3_yz_digest_each_wide.174:
+.Lswitch.table.v3_yz_digest_each_wide.173:
 	.long 1
 	.long 1
 	.long 0
 	.long 0
 	.long 0
 	.p2align 2, 0x0
-.Lswitch.table.v3_yz_digest_each_wide.175:
+.Lswitch.table.v3_yz_digest_each_wide.174:
 	.long 1732584193
 	.long 1779033703
 	.long 0
 	.long 0
 	.long 0
 	.p2align 3, 0x0
-.Lswitch.table.v3_yz_digest_each_wide.176:
+.Lswitch.table.v3_yz_digest_each_wide.175:
 	.quad -7441392446773286007
 	.quad 4354685563809803909
 	.quad -3766243637369397544
 	.quad 7640891576956012808
 	.quad 2463787394917988140
 	.p2align 3, 0x0
-.Lswitch.table.v3_yz_digest_each_wide.177:
+.Lswitch.table.v3_yz_digest_each_wide.176:
 	.quad -4336155070024231818
 	.quad 5840696474933916986
 	.quad 7105036623409894663
 	.quad -4942790177534073029
 	.quad -6965556091613846334
 	.p2align 3, 0x0
-.Lswitch.table.v3_yz_digest_each_wide.178:
+.Lswitch.table.v3_yz_digest_each_wide.177:
 	.quad 0
 	.quad 2270897968188319884
 	.quad -7973340178411365097
 	.quad 4354685564936845355
 	.quad 2563595384472711505
 	.p2align 3, 0x0
-.Lswitch.table.v3_yz_digest_each_wide.179:
+.Lswitch.table.v3_yz_digest_each_wide.178:
 	.quad 0
 	.quad 1541459225
 	.quad 1526699215303891257
 	.quad -6534734903238641935
 	.quad -7622211418569250115
 	.p2align 3, 0x0
-.Lswitch.table.v3_yz_digest_each_wide.180:
+.Lswitch.table.v3_yz_digest_each_wide.179:
 	.quad 0
 	.quad 0
 	.quad 7436329637833083697
 	.quad 5840696475078001361
 	.quad -7626776825740460061
 	.p2align 3, 0x0
-.Lswitch.table.v3_yz_digest_each_wide.181:
+.Lswitch.table.v3_yz_digest_each_wide.180:
 	.quad 0
 	.quad 0
 	.quad -8163818279084223215
 	.quad -7276294671716946913
 	.quad -4729309413028513390
 	.p2align 3, 0x0
-.Lswitch.table.v3_yz_digest_each_wide.182:
+.Lswitch.table.v3_yz_digest_each_wide.181:
 	.quad 0
 	.quad 0
 	.quad -2662702644619276377
 	.quad 2270897969802886507
 	.quad 3098927326965381290
 	.p2align 3, 0x0
-.Lswitch.table.v3_yz_digest_each_wide.183:
+.Lswitch.table.v3_yz_digest_each_wide.182:
 	.quad 0
 	.quad 0
 	.quad 5167115440072839076
@@ -50141,7 +50141,7 @@ v3_yz_webhook_verify_stripe:
 	.quad 128
 	.quad 128
 	.p2align 3, 0x0
-.Lswitch.table.v3_yz_jws_sign.197:
+.Lswitch.table.v3_yz_jws_sign.196:
 	.quad 81
 	.quad 102
 	.quad 124
@@ -50151,12 +50151,12 @@ v3_yz_webhook_verify_stripe:
 	.quad .Lstatic.12
 	.quad .Lstatic.13
 	.p2align 3, 0x0
-.Lswitch.table.v3_yz_jws_verify.199:
+.Lswitch.table.v3_yz_jws_verify.198:
 	.quad .Lstatic.14
 	.quad .Lstatic.15
 	.quad .Lstatic.16
 	.p2align 3, 0x0
-.Lswitch.table.v3_yz_jws_verify.200:
+.Lswitch.table.v3_yz_jws_verify.199:
 	.quad .Lstatic.17
 	.quad .Lstatic.18
 	.quad .Lstatic.19
@@ -50175,7 +50175,7 @@ v3_yz_webhook_verify_stripe:
 	.long .Lstatic.33-.Lswitch.table.v3_yz_password_hash_verify.rel
 	.long .Lstatic.28-.Lswitch.table.v3_yz_password_hash_verify.rel
 	.p2align 3, 0x0
-.Lswitch.table.v3_yz_password_hash_verify.201:
+.Lswitch.table.v3_yz_password_hash_verify.200:
 	.quad 14
 	.quad 12
 	.quad 14
@@ -50188,7 +50188,7 @@ v3_yz_webhook_verify_stripe:
 	.quad 15
 	.quad 14
 	.quad 12
-.Lswitch.table.v3_yz_password_hash_verify.202:
+.Lswitch.table.v3_yz_password_hash_verify.201:
 	.asciz "\000\000\000\000\003\003\002\004\004\004\002"
 	.p2align 3, 0x0
 .Lswitch.table.v3_yz_pbkdf2_verify_wide:

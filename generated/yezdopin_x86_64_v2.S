@@ -3,7 +3,7 @@
  *
  * Written by `make generated` from the proved crate ring_c: do not edit.
  * Kit: rattle-kit-13b logic dac8208d650f15bf
- * Git trees: ring_core 5493a03d67f5 ring b4f7fd0be2c0 ring_text b637680a9628 ring_password_hash 69e825674b8e ring_merkle 5c23b84ef417 ring_schedules 89afbc8fb064 ring_tokens 77106ca2f06a ring_c 6f61b631922a
+ * Git trees: ring_core cea59fb45dc0 ring a6bdd1eb9bfb ring_text b637680a9628 ring_password_hash 9f2ce58da2d2 ring_merkle f1c32e3106f7 ring_schedules 89afbc8fb064 ring_tokens 77106ca2f06a ring_c 79f4af531afd
  * Instructions: put in the place of proved functions by instructions.py, git blob bd4cc2bd973e
  */
 
@@ -119,27 +119,27 @@ L(1_0):
 	setae %r9b
 	movzbl %sil,%edi
 	lea 0x0(,%rdi,4),%eax
-	lea L(switch.table.yz_digest_each_wide.230)(%rip),%r10
+	lea L(switch.table.yz_digest_each_wide.229)(%rip),%r10
 	mov (%rax,%r10,1),%edx
 	mov %edx,0xc(%rsp)
-	lea L(switch.table.yz_digest_each_wide.231)(%rip),%r11
+	lea L(switch.table.yz_digest_each_wide.230)(%rip),%r11
 	mov (%rax,%r11,1),%eax
 	lea 0x0(,%rdi,8),%r11d
-	lea L(switch.table.yz_digest_each_wide.232)(%rip),%r14
+	lea L(switch.table.yz_digest_each_wide.231)(%rip),%r14
 	mov (%r11,%r14,1),%r14
-	lea L(switch.table.yz_digest_each_wide.233)(%rip),%r15
+	lea L(switch.table.yz_digest_each_wide.232)(%rip),%r15
 	mov (%r11,%r15,1),%r15
-	lea L(switch.table.yz_digest_each_wide.234)(%rip),%r12
+	lea L(switch.table.yz_digest_each_wide.233)(%rip),%r12
 	mov (%r11,%r12,1),%r12
-	lea L(switch.table.yz_digest_each_wide.235)(%rip),%r13
+	lea L(switch.table.yz_digest_each_wide.234)(%rip),%r13
 	mov (%r11,%r13,1),%r13
-	lea L(switch.table.yz_digest_each_wide.236)(%rip),%rbp
+	lea L(switch.table.yz_digest_each_wide.235)(%rip),%rbp
 	mov (%r11,%rbp,1),%rbp
-	lea L(switch.table.yz_digest_each_wide.237)(%rip),%r10
+	lea L(switch.table.yz_digest_each_wide.236)(%rip),%r10
 	mov (%r11,%r10,1),%r10
-	lea L(switch.table.yz_digest_each_wide.238)(%rip),%rdx
+	lea L(switch.table.yz_digest_each_wide.237)(%rip),%rdx
 	mov (%r11,%rdx,1),%rdx
-	lea L(switch.table.yz_digest_each_wide.239)(%rip),%r8
+	lea L(switch.table.yz_digest_each_wide.238)(%rip),%r8
 	mov (%r11,%r8,1),%r8
 	movaps %xmm0,0x20(%rsp)
 	mov 0xc(%rsp),%r11d
@@ -10880,32 +10880,32 @@ L(29_7):
 	movaps %xmm1,0x1e0(%rsp)
 	movaps %xmm0,0x1f0(%rsp)
 	lea 0x0(,%r12,4),%eax
-	lea L(switch.table.yz_digest_each_wide.230)(%rip),%rcx
+	lea L(switch.table.yz_digest_each_wide.229)(%rip),%rcx
 	mov (%rax,%rcx,1),%edx
 	mov %edx,0x88(%rsp)
-	lea L(switch.table.yz_digest_each_wide.231)(%rip),%rcx
+	lea L(switch.table.yz_digest_each_wide.230)(%rip),%rcx
 	mov (%rax,%rcx,1),%edi
 	mov %edi,0x84(%rsp)
 	lea 0x0(,%r12,8),%eax
-	lea L(switch.table.yz_digest_each_wide.232)(%rip),%rcx
+	lea L(switch.table.yz_digest_each_wide.231)(%rip),%rcx
 	mov (%rax,%rcx,1),%r8
 	mov %r8,0x170(%rsp)
-	lea L(switch.table.yz_digest_each_wide.233)(%rip),%rcx
+	lea L(switch.table.yz_digest_each_wide.232)(%rip),%rcx
 	mov (%rax,%rcx,1),%r9
 	mov %r9,0x168(%rsp)
-	lea L(switch.table.yz_digest_each_wide.234)(%rip),%rcx
+	lea L(switch.table.yz_digest_each_wide.233)(%rip),%rcx
 	mov (%rax,%rcx,1),%r10
 	mov %r10,0x160(%rsp)
-	lea L(switch.table.yz_digest_each_wide.235)(%rip),%rcx
+	lea L(switch.table.yz_digest_each_wide.234)(%rip),%rcx
 	mov (%rax,%rcx,1),%r11
 	mov %r11,0x158(%rsp)
-	lea L(switch.table.yz_digest_each_wide.236)(%rip),%rcx
+	lea L(switch.table.yz_digest_each_wide.235)(%rip),%rcx
 	mov (%rax,%rcx,1),%r14
-	lea L(switch.table.yz_digest_each_wide.237)(%rip),%rcx
+	lea L(switch.table.yz_digest_each_wide.236)(%rip),%rcx
 	mov (%rax,%rcx,1),%rbp
-	lea L(switch.table.yz_digest_each_wide.238)(%rip),%rcx
+	lea L(switch.table.yz_digest_each_wide.237)(%rip),%rcx
 	mov (%rax,%rcx,1),%r13
-	lea L(switch.table.yz_digest_each_wide.239)(%rip),%rcx
+	lea L(switch.table.yz_digest_each_wide.238)(%rip),%rcx
 	mov (%rax,%rcx,1),%rax
 	mov %rax,0x178(%rsp)
 	movaps %xmm3,0x10(%rsp)
@@ -14536,7 +14536,7 @@ L(63_1):
 	mov $0x400,%edx
 	xor %esi,%esi
 	call memset
-	lea L(switch.table.ring_password_hash.stored.Stored.parse.206)(%rip),%rax
+	lea L(switch.table.ring_password_hash.stored.Stored.parse.205)(%rip),%rax
 	mov (%rax,%rbx,8),%rax
 	mov %r14,%r12
 	sub %rax,%r12
@@ -24760,25 +24760,25 @@ L(120_17):
 	seta %cl
 	test %cl,(%rsp)
 	jne L(120_26)
-	lea L(switch.table.yz_digest_each_wide.230)(%rip),%rcx
+	lea L(switch.table.yz_digest_each_wide.229)(%rip),%rcx
 	mov (%rcx,%r15,4),%ecx
-	lea L(switch.table.yz_digest_each_wide.231)(%rip),%rdx
+	lea L(switch.table.yz_digest_each_wide.230)(%rip),%rdx
 	mov (%rdx,%r15,4),%edx
-	lea L(switch.table.yz_digest_each_wide.232)(%rip),%rsi
+	lea L(switch.table.yz_digest_each_wide.231)(%rip),%rsi
 	mov (%rsi,%r15,8),%rsi
-	lea L(switch.table.yz_digest_each_wide.233)(%rip),%rdi
+	lea L(switch.table.yz_digest_each_wide.232)(%rip),%rdi
 	mov (%rdi,%r15,8),%rdi
-	lea L(switch.table.yz_digest_each_wide.234)(%rip),%r8
+	lea L(switch.table.yz_digest_each_wide.233)(%rip),%r8
 	mov (%r8,%r15,8),%r8
-	lea L(switch.table.yz_digest_each_wide.235)(%rip),%r9
+	lea L(switch.table.yz_digest_each_wide.234)(%rip),%r9
 	mov (%r9,%r15,8),%r9
-	lea L(switch.table.yz_digest_each_wide.236)(%rip),%r10
+	lea L(switch.table.yz_digest_each_wide.235)(%rip),%r10
 	mov (%r10,%r15,8),%r10
-	lea L(switch.table.yz_digest_each_wide.237)(%rip),%r11
+	lea L(switch.table.yz_digest_each_wide.236)(%rip),%r11
 	mov (%r11,%r15,8),%r11
-	lea L(switch.table.yz_digest_each_wide.238)(%rip),%r14
+	lea L(switch.table.yz_digest_each_wide.237)(%rip),%r14
 	mov (%r14,%r15,8),%r14
-	lea L(switch.table.yz_digest_each_wide.239)(%rip),%r12
+	lea L(switch.table.yz_digest_each_wide.238)(%rip),%r12
 	mov (%r12,%r15,8),%r12
 	movaps %xmm0,0x50(%rsp)
 	mov %ecx,0x60(%rsp)
@@ -27853,7 +27853,7 @@ L(157_0):
 	or $0x3,%r15
 L(157_1):
 	mov %edi,%r12d
-	lea L(switch.table.yz_jws_sign.253)(%rip),%rbp
+	lea L(switch.table.yz_jws_sign.252)(%rip),%rbp
 	mov %r12,0x28(%rsp)
 	mov 0x0(%rbp,%r12,8),%rbp
 	mov %rbp,%r12
@@ -27966,7 +27966,7 @@ L(157_7):
 	mov 0x18(%rsp),%rcx
 L(157_8):
 	mov 0x28(%rsp),%rsi
-	lea L(switch.table.yz_jws_sign.253)(%rip),%r9
+	lea L(switch.table.yz_jws_sign.252)(%rip),%r9
 	add (%r9,%rsi,8),%rdx
 	jb L(157_2)
 	cmp %rdx,%r15
@@ -32937,9 +32937,9 @@ L(switch.table.ring_password_hash.stored.Stored.parse.rel):
 	.long L(static.33)-L(switch.table.ring_password_hash.stored.Stored.parse.rel)
 	.long L(static.28)-L(switch.table.ring_password_hash.stored.Stored.parse.rel)
 
-	CONSTANTS(Lswitch.table.ring_password_hash.stored.Stored.parse.206,"a",%progbits)
+	CONSTANTS(Lswitch.table.ring_password_hash.stored.Stored.parse.205,"a",%progbits)
 	.p2align 3
-L(switch.table.ring_password_hash.stored.Stored.parse.206):
+L(switch.table.ring_password_hash.stored.Stored.parse.205):
 	.quad 0x000000000000000e, 0x000000000000000c, 0x000000000000000e, 0x000000000000000e
 	.quad 0x000000000000000f, 0x000000000000000f, 0x0000000000000003, 0x0000000000000008
 	.quad 0x000000000000000f, 0x000000000000000f, 0x000000000000000e, 0x000000000000000c
@@ -32955,63 +32955,63 @@ L(switch.table.ring.pbkdf2.derive_in.128):
 	.quad 0x00000013ffffffec, 0x0000001fffffffe0, 0x0000002fffffffd0, 0x0000003fffffffc0
 	.quad 0x0000001fffffffe0
 
-	CONSTANTS(Lswitch.table.yz_digest_each_wide.230,"a",%progbits)
+	CONSTANTS(Lswitch.table.yz_digest_each_wide.229,"a",%progbits)
 	.p2align 2
-L(switch.table.yz_digest_each_wide.230):
+L(switch.table.yz_digest_each_wide.229):
 	.long 0x00000001, 0x00000001, 0x00000000, 0x00000000
 	.long 0x00000000
 
-	CONSTANTS(Lswitch.table.yz_digest_each_wide.231,"a",%progbits)
+	CONSTANTS(Lswitch.table.yz_digest_each_wide.230,"a",%progbits)
 	.p2align 2
-L(switch.table.yz_digest_each_wide.231):
+L(switch.table.yz_digest_each_wide.230):
 	.long 0x67452301, 0x6a09e667, 0x00000000, 0x00000000
 	.long 0x00000000
+
+	CONSTANTS(Lswitch.table.yz_digest_each_wide.231,"a",%progbits)
+	.p2align 3
+L(switch.table.yz_digest_each_wide.231):
+	.quad 0x98badcfeefcdab89, 0x3c6ef372bb67ae85, 0xcbbb9d5dc1059ed8, 0x6a09e667f3bcc908
+	.quad 0x22312194fc2bf72c
 
 	CONSTANTS(Lswitch.table.yz_digest_each_wide.232,"a",%progbits)
 	.p2align 3
 L(switch.table.yz_digest_each_wide.232):
-	.quad 0x98badcfeefcdab89, 0x3c6ef372bb67ae85, 0xcbbb9d5dc1059ed8, 0x6a09e667f3bcc908
-	.quad 0x22312194fc2bf72c
+	.quad 0xc3d2e1f010325476, 0x510e527fa54ff53a, 0x629a292a367cd507, 0xbb67ae8584caa73b
+	.quad 0x9f555fa3c84c64c2
 
 	CONSTANTS(Lswitch.table.yz_digest_each_wide.233,"a",%progbits)
 	.p2align 3
 L(switch.table.yz_digest_each_wide.233):
-	.quad 0xc3d2e1f010325476, 0x510e527fa54ff53a, 0x629a292a367cd507, 0xbb67ae8584caa73b
-	.quad 0x9f555fa3c84c64c2
+	.quad 0x0000000000000000, 0x1f83d9ab9b05688c, 0x9159015a3070dd17, 0x3c6ef372fe94f82b
+	.quad 0x2393b86b6f53b151
 
 	CONSTANTS(Lswitch.table.yz_digest_each_wide.234,"a",%progbits)
 	.p2align 3
 L(switch.table.yz_digest_each_wide.234):
-	.quad 0x0000000000000000, 0x1f83d9ab9b05688c, 0x9159015a3070dd17, 0x3c6ef372fe94f82b
-	.quad 0x2393b86b6f53b151
+	.quad 0x0000000000000000, 0x000000005be0cd19, 0x152fecd8f70e5939, 0xa54ff53a5f1d36f1
+	.quad 0x963877195940eabd
 
 	CONSTANTS(Lswitch.table.yz_digest_each_wide.235,"a",%progbits)
 	.p2align 3
 L(switch.table.yz_digest_each_wide.235):
-	.quad 0x0000000000000000, 0x000000005be0cd19, 0x152fecd8f70e5939, 0xa54ff53a5f1d36f1
-	.quad 0x963877195940eabd
+	.quad 0x0000000000000000, 0x0000000000000000, 0x67332667ffc00b31, 0x510e527fade682d1
+	.quad 0x96283ee2a88effe3
 
 	CONSTANTS(Lswitch.table.yz_digest_each_wide.236,"a",%progbits)
 	.p2align 3
 L(switch.table.yz_digest_each_wide.236):
-	.quad 0x0000000000000000, 0x0000000000000000, 0x67332667ffc00b31, 0x510e527fade682d1
-	.quad 0x96283ee2a88effe3
+	.quad 0x0000000000000000, 0x0000000000000000, 0x8eb44a8768581511, 0x9b05688c2b3e6c1f
+	.quad 0xbe5e1e2553863992
 
 	CONSTANTS(Lswitch.table.yz_digest_each_wide.237,"a",%progbits)
 	.p2align 3
 L(switch.table.yz_digest_each_wide.237):
-	.quad 0x0000000000000000, 0x0000000000000000, 0x8eb44a8768581511, 0x9b05688c2b3e6c1f
-	.quad 0xbe5e1e2553863992
+	.quad 0x0000000000000000, 0x0000000000000000, 0xdb0c2e0d64f98fa7, 0x1f83d9abfb41bd6b
+	.quad 0x2b0199fc2c85b8aa
 
 	CONSTANTS(Lswitch.table.yz_digest_each_wide.238,"a",%progbits)
 	.p2align 3
 L(switch.table.yz_digest_each_wide.238):
-	.quad 0x0000000000000000, 0x0000000000000000, 0xdb0c2e0d64f98fa7, 0x1f83d9abfb41bd6b
-	.quad 0x2b0199fc2c85b8aa
-
-	CONSTANTS(Lswitch.table.yz_digest_each_wide.239,"a",%progbits)
-	.p2align 3
-L(switch.table.yz_digest_each_wide.239):
 	.quad 0x0000000000000000, 0x0000000000000000, 0x47b5481dbefa4fa4, 0x5be0cd19137e2179
 	.quad 0x0eb72ddc81c52ca2
 
@@ -33036,9 +33036,9 @@ L(switch.table.yz_hmac_update):
 	.quad 0x0000000000000040, 0x0000000000000040, 0x0000000000000080, 0x0000000000000080
 	.quad 0x0000000000000080
 
-	CONSTANTS(Lswitch.table.yz_jws_sign.253,"a",%progbits)
+	CONSTANTS(Lswitch.table.yz_jws_sign.252,"a",%progbits)
 	.p2align 3
-L(switch.table.yz_jws_sign.253):
+L(switch.table.yz_jws_sign.252):
 	.quad 0x0000000000000051, 0x0000000000000066, 0x000000000000007c
 
 	CONSTANTS(Lswitch.table.yz_password_hash_verify,"a",%progbits)
@@ -33060,14 +33060,14 @@ L(306_0):
 	.quad L(static.12)
 	.quad L(static.13)
 
-	ADDRESSES(Lswitch.table.yz_jws_verify.255)
+	ADDRESSES(Lswitch.table.yz_jws_verify.254)
 	.p2align 3
 L(308_0):
 	.quad L(static.14)
 	.quad L(static.15)
 	.quad L(static.16)
 
-	ADDRESSES(Lswitch.table.yz_jws_verify.256)
+	ADDRESSES(Lswitch.table.yz_jws_verify.255)
 	.p2align 3
 L(310_0):
 	.quad L(static.17)

@@ -3,7 +3,7 @@
  *
  * Written by `make generated` from the proved crate ring_c: do not edit.
  * Kit: rattle-kit-13b logic dac8208d650f15bf
- * Git trees: ring_core 5493a03d67f5 ring b4f7fd0be2c0 ring_text b637680a9628 ring_password_hash 69e825674b8e ring_merkle 5c23b84ef417 ring_schedules 89afbc8fb064 ring_tokens 77106ca2f06a ring_c 6f61b631922a
+ * Git trees: ring_core cea59fb45dc0 ring a6bdd1eb9bfb ring_text b637680a9628 ring_password_hash 9f2ce58da2d2 ring_merkle f1c32e3106f7 ring_schedules 89afbc8fb064 ring_tokens 77106ca2f06a ring_c 79f4af531afd
  * Rounds: in the form chosen by instructions.py, git blob bd4cc2bd973e
  */
 
@@ -108,27 +108,27 @@ L(1_0):
 	setae %dl
 	movzbl %sil,%edi
 	lea 0x0(,%rdi,4),%r9d
-	lea L(switch.table.yz_digest_each_wide.192)(%rip),%r10
+	lea L(switch.table.yz_digest_each_wide.191)(%rip),%r10
 	mov (%r9,%r10,1),%eax
 	mov %eax,0xc(%rsp)
-	lea L(switch.table.yz_digest_each_wide.193)(%rip),%r11
+	lea L(switch.table.yz_digest_each_wide.192)(%rip),%r11
 	mov (%r9,%r11,1),%r9d
 	lea 0x0(,%rdi,8),%r11d
-	lea L(switch.table.yz_digest_each_wide.194)(%rip),%r14
+	lea L(switch.table.yz_digest_each_wide.193)(%rip),%r14
 	mov (%r11,%r14,1),%r14
-	lea L(switch.table.yz_digest_each_wide.195)(%rip),%r15
+	lea L(switch.table.yz_digest_each_wide.194)(%rip),%r15
 	mov (%r11,%r15,1),%r15
-	lea L(switch.table.yz_digest_each_wide.196)(%rip),%r12
+	lea L(switch.table.yz_digest_each_wide.195)(%rip),%r12
 	mov (%r11,%r12,1),%r12
-	lea L(switch.table.yz_digest_each_wide.197)(%rip),%r13
+	lea L(switch.table.yz_digest_each_wide.196)(%rip),%r13
 	mov (%r11,%r13,1),%r13
-	lea L(switch.table.yz_digest_each_wide.198)(%rip),%rbp
+	lea L(switch.table.yz_digest_each_wide.197)(%rip),%rbp
 	mov (%r11,%rbp,1),%rbp
-	lea L(switch.table.yz_digest_each_wide.199)(%rip),%rax
+	lea L(switch.table.yz_digest_each_wide.198)(%rip),%rax
 	mov (%r11,%rax,1),%rax
-	lea L(switch.table.yz_digest_each_wide.200)(%rip),%r10
+	lea L(switch.table.yz_digest_each_wide.199)(%rip),%r10
 	mov (%r11,%r10,1),%r10
-	lea L(switch.table.yz_digest_each_wide.201)(%rip),%r8
+	lea L(switch.table.yz_digest_each_wide.200)(%rip),%r8
 	mov (%r11,%r8,1),%r8
 	vmovaps %xmm0,0x20(%rsp)
 	mov 0xc(%rsp),%r11d
@@ -11562,13 +11562,13 @@ ring.digest.each.digest_in_lanes.8d8d542e76d4c528:
 	movzbl %al,%eax
 	shl $0x3,%eax
 	lea L(switch.table.ring.digest.each.digest_in_lanes.8d8d542e76d4c528)(%rip),%rcx
-	lea L(switch.table.ring.digest.each.digest_in_lanes.8d8d542e76d4c528.139)(%rip),%rdx
-	lea L(switch.table.ring.digest.each.digest_in_lanes.8d8d542e76d4c528.140)(%rip),%rsi
-	lea L(switch.table.ring.digest.each.digest_in_lanes.8d8d542e76d4c528.141)(%rip),%rdi
-	lea L(switch.table.ring.digest.each.digest_in_lanes.8d8d542e76d4c528.142)(%rip),%r8
-	lea L(switch.table.ring.digest.each.digest_in_lanes.8d8d542e76d4c528.143)(%rip),%r9
-	lea L(switch.table.ring.digest.each.digest_in_lanes.8d8d542e76d4c528.144)(%rip),%r10
-	lea L(switch.table.ring.digest.each.digest_in_lanes.8d8d542e76d4c528.145)(%rip),%r11
+	lea L(switch.table.ring.digest.each.digest_in_lanes.8d8d542e76d4c528.138)(%rip),%rdx
+	lea L(switch.table.ring.digest.each.digest_in_lanes.8d8d542e76d4c528.139)(%rip),%rsi
+	lea L(switch.table.ring.digest.each.digest_in_lanes.8d8d542e76d4c528.140)(%rip),%rdi
+	lea L(switch.table.ring.digest.each.digest_in_lanes.8d8d542e76d4c528.141)(%rip),%r8
+	lea L(switch.table.ring.digest.each.digest_in_lanes.8d8d542e76d4c528.142)(%rip),%r9
+	lea L(switch.table.ring.digest.each.digest_in_lanes.8d8d542e76d4c528.143)(%rip),%r10
+	lea L(switch.table.ring.digest.each.digest_in_lanes.8d8d542e76d4c528.144)(%rip),%r11
 	vbroadcastsd (%rax,%rcx,1),%ymm0
 	vmovups %ymm0,0x680(%rsp)
 	vbroadcastsd (%rax,%rdx,1),%ymm0
@@ -14582,34 +14582,34 @@ L(32_7):
 	vmovups %ymm3,0x130(%rsp)
 	vmovups %ymm0,0x150(%rsp)
 	lea 0x0(,%rbp,4),%eax
-	lea L(switch.table.yz_digest_each_wide.192)(%rip),%rcx
+	lea L(switch.table.yz_digest_each_wide.191)(%rip),%rcx
 	mov (%rax,%rcx,1),%edx
 	mov %edx,0x80(%rsp)
-	lea L(switch.table.yz_digest_each_wide.193)(%rip),%rcx
+	lea L(switch.table.yz_digest_each_wide.192)(%rip),%rcx
 	mov (%rax,%rcx,1),%edi
 	mov %edi,0x7c(%rsp)
 	lea 0x0(,%rbp,8),%eax
-	lea L(switch.table.yz_digest_each_wide.194)(%rip),%rcx
+	lea L(switch.table.yz_digest_each_wide.193)(%rip),%rcx
 	mov (%rax,%rcx,1),%r8
 	mov %r8,0xc8(%rsp)
-	lea L(switch.table.yz_digest_each_wide.195)(%rip),%rcx
+	lea L(switch.table.yz_digest_each_wide.194)(%rip),%rcx
 	mov (%rax,%rcx,1),%r9
 	mov %r9,0xc0(%rsp)
-	lea L(switch.table.yz_digest_each_wide.196)(%rip),%rcx
+	lea L(switch.table.yz_digest_each_wide.195)(%rip),%rcx
 	mov (%rax,%rcx,1),%r10
 	mov %r10,0xb8(%rsp)
-	lea L(switch.table.yz_digest_each_wide.197)(%rip),%rcx
+	lea L(switch.table.yz_digest_each_wide.196)(%rip),%rcx
 	mov (%rax,%rcx,1),%r11
 	mov %r11,0xb0(%rsp)
-	lea L(switch.table.yz_digest_each_wide.198)(%rip),%rcx
+	lea L(switch.table.yz_digest_each_wide.197)(%rip),%rcx
 	mov (%rax,%rcx,1),%r13
 	mov %r13,0xa8(%rsp)
-	lea L(switch.table.yz_digest_each_wide.199)(%rip),%rcx
+	lea L(switch.table.yz_digest_each_wide.198)(%rip),%rcx
 	mov (%rax,%rcx,1),%r14
 	mov %r14,0xa0(%rsp)
-	lea L(switch.table.yz_digest_each_wide.200)(%rip),%rcx
+	lea L(switch.table.yz_digest_each_wide.199)(%rip),%rcx
 	mov (%rax,%rcx,1),%r12
-	lea L(switch.table.yz_digest_each_wide.201)(%rip),%rcx
+	lea L(switch.table.yz_digest_each_wide.200)(%rip),%rcx
 	mov (%rax,%rcx,1),%rax
 	vmovaps %xmm4,0x10(%rsp)
 	lea 0x20(%rsp),%rsi
@@ -18001,7 +18001,7 @@ L(66_1):
 	mov $0x400,%edx
 	xor %esi,%esi
 	call memset
-	lea L(switch.table.ring_password_hash.stored.Stored.parse.168)(%rip),%rax
+	lea L(switch.table.ring_password_hash.stored.Stored.parse.167)(%rip),%rax
 	mov (%rax,%rbx,8),%rax
 	mov %r14,%r12
 	sub %rax,%r12
@@ -36695,26 +36695,26 @@ L(145_16):
 	seta %cl
 	test %cl,%bpl
 	jne L(145_94)
-	lea L(switch.table.yz_digest_each_wide.192)(%rip),%rcx
+	lea L(switch.table.yz_digest_each_wide.191)(%rip),%rcx
 	mov (%rcx,%r12,4),%ecx
-	lea L(switch.table.yz_digest_each_wide.193)(%rip),%rdx
+	lea L(switch.table.yz_digest_each_wide.192)(%rip),%rdx
 	mov (%rdx,%r12,4),%edx
-	lea L(switch.table.yz_digest_each_wide.194)(%rip),%rsi
+	lea L(switch.table.yz_digest_each_wide.193)(%rip),%rsi
 	mov (%rsi,%r12,8),%rsi
-	lea L(switch.table.yz_digest_each_wide.195)(%rip),%rdi
+	lea L(switch.table.yz_digest_each_wide.194)(%rip),%rdi
 	mov (%rdi,%r12,8),%rdi
-	lea L(switch.table.yz_digest_each_wide.196)(%rip),%r8
+	lea L(switch.table.yz_digest_each_wide.195)(%rip),%r8
 	mov (%r8,%r12,8),%r8
-	lea L(switch.table.yz_digest_each_wide.197)(%rip),%r9
+	lea L(switch.table.yz_digest_each_wide.196)(%rip),%r9
 	mov (%r9,%r12,8),%r9
-	lea L(switch.table.yz_digest_each_wide.198)(%rip),%r10
+	lea L(switch.table.yz_digest_each_wide.197)(%rip),%r10
 	mov (%r10,%r12,8),%r10
-	lea L(switch.table.yz_digest_each_wide.199)(%rip),%r11
+	lea L(switch.table.yz_digest_each_wide.198)(%rip),%r11
 	mov (%r11,%r12,8),%r11
-	lea L(switch.table.yz_digest_each_wide.200)(%rip),%r14
+	lea L(switch.table.yz_digest_each_wide.199)(%rip),%r14
 	mov (%r14,%r12,8),%r14
 	mov %r12,%rbp
-	lea L(switch.table.yz_digest_each_wide.201)(%rip),%r12
+	lea L(switch.table.yz_digest_each_wide.200)(%rip),%r12
 	mov (%r12,%rbp,8),%r12
 	vmovdqa %xmm0,0x60(%rsp)
 	mov %ecx,0x70(%rsp)
@@ -40857,7 +40857,7 @@ L(177_0):
 	or $0x3,%rdx
 L(177_1):
 	mov %edi,%r15d
-	lea L(switch.table.yz_jws_sign.215)(%rip),%r12
+	lea L(switch.table.yz_jws_sign.214)(%rip),%r12
 	mov %r15,0x8(%rsp)
 	mov (%r12,%r15,8),%r15
 	mov %r15,%r12
@@ -40982,7 +40982,7 @@ L(177_5):
 	or $0x3,%r13
 L(177_6):
 	mov 0x8(%rsp),%r11
-	lea L(switch.table.yz_jws_sign.215)(%rip),%rbx
+	lea L(switch.table.yz_jws_sign.214)(%rip),%rbx
 	add (%rbx,%r11,8),%r13
 	jb L(177_2)
 	cmp %r13,%r12
@@ -46035,39 +46035,39 @@ L(static.64):
 L(switch.table.ring.digest.each.digest_in_lanes.8d8d542e76d4c528):
 	.quad 0xcbbb9d5dc1059ed8, 0x6a09e667f3bcc908, 0x22312194fc2bf72c
 
+	CONSTANTS(Lswitch.table.ring.digest.each.digest_in_lanes.8d8d542e76d4c528.138,"a",%progbits)
+	.p2align 3
+L(switch.table.ring.digest.each.digest_in_lanes.8d8d542e76d4c528.138):
+	.quad 0x629a292a367cd507, 0xbb67ae8584caa73b, 0x9f555fa3c84c64c2
+
 	CONSTANTS(Lswitch.table.ring.digest.each.digest_in_lanes.8d8d542e76d4c528.139,"a",%progbits)
 	.p2align 3
 L(switch.table.ring.digest.each.digest_in_lanes.8d8d542e76d4c528.139):
-	.quad 0x629a292a367cd507, 0xbb67ae8584caa73b, 0x9f555fa3c84c64c2
+	.quad 0x9159015a3070dd17, 0x3c6ef372fe94f82b, 0x2393b86b6f53b151
 
 	CONSTANTS(Lswitch.table.ring.digest.each.digest_in_lanes.8d8d542e76d4c528.140,"a",%progbits)
 	.p2align 3
 L(switch.table.ring.digest.each.digest_in_lanes.8d8d542e76d4c528.140):
-	.quad 0x9159015a3070dd17, 0x3c6ef372fe94f82b, 0x2393b86b6f53b151
+	.quad 0x152fecd8f70e5939, 0xa54ff53a5f1d36f1, 0x963877195940eabd
 
 	CONSTANTS(Lswitch.table.ring.digest.each.digest_in_lanes.8d8d542e76d4c528.141,"a",%progbits)
 	.p2align 3
 L(switch.table.ring.digest.each.digest_in_lanes.8d8d542e76d4c528.141):
-	.quad 0x152fecd8f70e5939, 0xa54ff53a5f1d36f1, 0x963877195940eabd
+	.quad 0x67332667ffc00b31, 0x510e527fade682d1, 0x96283ee2a88effe3
 
 	CONSTANTS(Lswitch.table.ring.digest.each.digest_in_lanes.8d8d542e76d4c528.142,"a",%progbits)
 	.p2align 3
 L(switch.table.ring.digest.each.digest_in_lanes.8d8d542e76d4c528.142):
-	.quad 0x67332667ffc00b31, 0x510e527fade682d1, 0x96283ee2a88effe3
+	.quad 0x8eb44a8768581511, 0x9b05688c2b3e6c1f, 0xbe5e1e2553863992
 
 	CONSTANTS(Lswitch.table.ring.digest.each.digest_in_lanes.8d8d542e76d4c528.143,"a",%progbits)
 	.p2align 3
 L(switch.table.ring.digest.each.digest_in_lanes.8d8d542e76d4c528.143):
-	.quad 0x8eb44a8768581511, 0x9b05688c2b3e6c1f, 0xbe5e1e2553863992
+	.quad 0xdb0c2e0d64f98fa7, 0x1f83d9abfb41bd6b, 0x2b0199fc2c85b8aa
 
 	CONSTANTS(Lswitch.table.ring.digest.each.digest_in_lanes.8d8d542e76d4c528.144,"a",%progbits)
 	.p2align 3
 L(switch.table.ring.digest.each.digest_in_lanes.8d8d542e76d4c528.144):
-	.quad 0xdb0c2e0d64f98fa7, 0x1f83d9abfb41bd6b, 0x2b0199fc2c85b8aa
-
-	CONSTANTS(Lswitch.table.ring.digest.each.digest_in_lanes.8d8d542e76d4c528.145,"a",%progbits)
-	.p2align 3
-L(switch.table.ring.digest.each.digest_in_lanes.8d8d542e76d4c528.145):
 	.quad 0x47b5481dbefa4fa4, 0x5be0cd19137e2179, 0x0eb72ddc81c52ca2
 
 	CONSTANTS(Lswitch.table.ring_schedules.label.fill_by_label,"a",%progbits)
@@ -46098,9 +46098,9 @@ L(switch.table.ring_password_hash.stored.Stored.parse.rel):
 	.long L(static.33)-L(switch.table.ring_password_hash.stored.Stored.parse.rel)
 	.long L(static.28)-L(switch.table.ring_password_hash.stored.Stored.parse.rel)
 
-	CONSTANTS(Lswitch.table.ring_password_hash.stored.Stored.parse.168,"a",%progbits)
+	CONSTANTS(Lswitch.table.ring_password_hash.stored.Stored.parse.167,"a",%progbits)
 	.p2align 3
-L(switch.table.ring_password_hash.stored.Stored.parse.168):
+L(switch.table.ring_password_hash.stored.Stored.parse.167):
 	.quad 0x000000000000000e, 0x000000000000000c, 0x000000000000000e, 0x000000000000000e
 	.quad 0x000000000000000f, 0x000000000000000f, 0x0000000000000003, 0x0000000000000008
 	.quad 0x000000000000000f, 0x000000000000000f, 0x000000000000000e, 0x000000000000000c
@@ -46116,63 +46116,63 @@ L(switch.table.ring.pbkdf2.derive_in.128):
 	.quad 0x00000013ffffffec, 0x0000001fffffffe0, 0x0000002fffffffd0, 0x0000003fffffffc0
 	.quad 0x0000001fffffffe0
 
-	CONSTANTS(Lswitch.table.yz_digest_each_wide.192,"a",%progbits)
+	CONSTANTS(Lswitch.table.yz_digest_each_wide.191,"a",%progbits)
 	.p2align 2
-L(switch.table.yz_digest_each_wide.192):
+L(switch.table.yz_digest_each_wide.191):
 	.long 0x00000001, 0x00000001, 0x00000000, 0x00000000
 	.long 0x00000000
 
-	CONSTANTS(Lswitch.table.yz_digest_each_wide.193,"a",%progbits)
+	CONSTANTS(Lswitch.table.yz_digest_each_wide.192,"a",%progbits)
 	.p2align 2
-L(switch.table.yz_digest_each_wide.193):
+L(switch.table.yz_digest_each_wide.192):
 	.long 0x67452301, 0x6a09e667, 0x00000000, 0x00000000
 	.long 0x00000000
+
+	CONSTANTS(Lswitch.table.yz_digest_each_wide.193,"a",%progbits)
+	.p2align 3
+L(switch.table.yz_digest_each_wide.193):
+	.quad 0x98badcfeefcdab89, 0x3c6ef372bb67ae85, 0xcbbb9d5dc1059ed8, 0x6a09e667f3bcc908
+	.quad 0x22312194fc2bf72c
 
 	CONSTANTS(Lswitch.table.yz_digest_each_wide.194,"a",%progbits)
 	.p2align 3
 L(switch.table.yz_digest_each_wide.194):
-	.quad 0x98badcfeefcdab89, 0x3c6ef372bb67ae85, 0xcbbb9d5dc1059ed8, 0x6a09e667f3bcc908
-	.quad 0x22312194fc2bf72c
+	.quad 0xc3d2e1f010325476, 0x510e527fa54ff53a, 0x629a292a367cd507, 0xbb67ae8584caa73b
+	.quad 0x9f555fa3c84c64c2
 
 	CONSTANTS(Lswitch.table.yz_digest_each_wide.195,"a",%progbits)
 	.p2align 3
 L(switch.table.yz_digest_each_wide.195):
-	.quad 0xc3d2e1f010325476, 0x510e527fa54ff53a, 0x629a292a367cd507, 0xbb67ae8584caa73b
-	.quad 0x9f555fa3c84c64c2
+	.quad 0x0000000000000000, 0x1f83d9ab9b05688c, 0x9159015a3070dd17, 0x3c6ef372fe94f82b
+	.quad 0x2393b86b6f53b151
 
 	CONSTANTS(Lswitch.table.yz_digest_each_wide.196,"a",%progbits)
 	.p2align 3
 L(switch.table.yz_digest_each_wide.196):
-	.quad 0x0000000000000000, 0x1f83d9ab9b05688c, 0x9159015a3070dd17, 0x3c6ef372fe94f82b
-	.quad 0x2393b86b6f53b151
+	.quad 0x0000000000000000, 0x000000005be0cd19, 0x152fecd8f70e5939, 0xa54ff53a5f1d36f1
+	.quad 0x963877195940eabd
 
 	CONSTANTS(Lswitch.table.yz_digest_each_wide.197,"a",%progbits)
 	.p2align 3
 L(switch.table.yz_digest_each_wide.197):
-	.quad 0x0000000000000000, 0x000000005be0cd19, 0x152fecd8f70e5939, 0xa54ff53a5f1d36f1
-	.quad 0x963877195940eabd
+	.quad 0x0000000000000000, 0x0000000000000000, 0x67332667ffc00b31, 0x510e527fade682d1
+	.quad 0x96283ee2a88effe3
 
 	CONSTANTS(Lswitch.table.yz_digest_each_wide.198,"a",%progbits)
 	.p2align 3
 L(switch.table.yz_digest_each_wide.198):
-	.quad 0x0000000000000000, 0x0000000000000000, 0x67332667ffc00b31, 0x510e527fade682d1
-	.quad 0x96283ee2a88effe3
+	.quad 0x0000000000000000, 0x0000000000000000, 0x8eb44a8768581511, 0x9b05688c2b3e6c1f
+	.quad 0xbe5e1e2553863992
 
 	CONSTANTS(Lswitch.table.yz_digest_each_wide.199,"a",%progbits)
 	.p2align 3
 L(switch.table.yz_digest_each_wide.199):
-	.quad 0x0000000000000000, 0x0000000000000000, 0x8eb44a8768581511, 0x9b05688c2b3e6c1f
-	.quad 0xbe5e1e2553863992
+	.quad 0x0000000000000000, 0x0000000000000000, 0xdb0c2e0d64f98fa7, 0x1f83d9abfb41bd6b
+	.quad 0x2b0199fc2c85b8aa
 
 	CONSTANTS(Lswitch.table.yz_digest_each_wide.200,"a",%progbits)
 	.p2align 3
 L(switch.table.yz_digest_each_wide.200):
-	.quad 0x0000000000000000, 0x0000000000000000, 0xdb0c2e0d64f98fa7, 0x1f83d9abfb41bd6b
-	.quad 0x2b0199fc2c85b8aa
-
-	CONSTANTS(Lswitch.table.yz_digest_each_wide.201,"a",%progbits)
-	.p2align 3
-L(switch.table.yz_digest_each_wide.201):
 	.quad 0x0000000000000000, 0x0000000000000000, 0x47b5481dbefa4fa4, 0x5be0cd19137e2179
 	.quad 0x0eb72ddc81c52ca2
 
@@ -46182,9 +46182,9 @@ L(switch.table.yz_hmac_update):
 	.quad 0x0000000000000040, 0x0000000000000040, 0x0000000000000080, 0x0000000000000080
 	.quad 0x0000000000000080
 
-	CONSTANTS(Lswitch.table.yz_jws_sign.215,"a",%progbits)
+	CONSTANTS(Lswitch.table.yz_jws_sign.214,"a",%progbits)
 	.p2align 3
-L(switch.table.yz_jws_sign.215):
+L(switch.table.yz_jws_sign.214):
 	.quad 0x0000000000000051, 0x0000000000000066, 0x000000000000007c
 
 	CONSTANTS(Lswitch.table.yz_password_hash_verify,"a",%progbits)
@@ -46206,14 +46206,14 @@ L(326_0):
 	.quad L(static.12)
 	.quad L(static.13)
 
-	ADDRESSES(Lswitch.table.yz_jws_verify.217)
+	ADDRESSES(Lswitch.table.yz_jws_verify.216)
 	.p2align 3
 L(328_0):
 	.quad L(static.14)
 	.quad L(static.15)
 	.quad L(static.16)
 
-	ADDRESSES(Lswitch.table.yz_jws_verify.218)
+	ADDRESSES(Lswitch.table.yz_jws_verify.217)
 	.p2align 3
 L(330_0):
 	.quad L(static.17)

@@ -70,9 +70,8 @@ METERS = {
     "ring_speed": 4,
     "ring_c": 9,
 }
-# How the names of the crates of tests end, and what declares a module of tests.
+# How the names of the crates of tests end.
 OF_TESTS = "_tests"
-OF_TEST = re.compile(r"#\[cfg\(test\)\]\n(?:pub )?mod (\w+);")
 # The libraries whose functions take a meter or make one, where they run blocks.
 METERED = ("ring_core", "ring", "ring_store", "ring_password_hash")
 # What makes its key by a conversion, which is handed no meter: no call of its counted form.
@@ -190,7 +189,7 @@ def sources():
     for crate in crates():
         texts = {path: path.read_text()
                  for path in sorted((ROOT / "crates" / crate / "src").rglob("*.rt"))}
-        of_tests = {f"{it}.rt" for text in texts.values() for it in OF_TEST.findall(text)}
+        of_tests = rattle_text.files_of_tests(texts.values())
         for path, text in texts.items():
             relative = path.relative_to(ROOT)
             if not {"tests", "examples.rt", *of_tests} & set(relative.parts):

@@ -65,12 +65,15 @@ ALLOWED = {
 
 
 def sources():
-    """The code of each file of the crates without contracts, by its path."""
+    """The code of each file of the crates that is no test and no example, without contracts, by its
+    path."""
     found = {}
-    for path in sorted((ROOT / "crates").glob("*/src/**/*.rt")):
-        if path.name not in ("tests.rt", "examples.rt"):
-            relative = str(path.relative_to(ROOT))
-            found[relative] = rattle_text.without_clauses(path.read_text())
+    for crate in sorted((ROOT / "crates").glob("*/src")):
+        texts = {path: path.read_text() for path in sorted(crate.rglob("*.rt"))}
+        of_tests = rattle_text.files_of_tests(texts.values())
+        for path, text in texts.items():
+            if path.name not in {"tests.rt", "examples.rt", *of_tests}:
+                found[str(path.relative_to(ROOT))] = rattle_text.without_clauses(text)
     return found
 
 

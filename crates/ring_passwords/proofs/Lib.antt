@@ -4,6 +4,7 @@ mod Fits
 mod Kept
 mod Marks
 mod Ordered
+mod Outputs
 mod Replaced
 mod Temporaries
 mod Unsynced

@@ -11,6 +11,7 @@ pub mod Folder
 pub mod Listing
 pub mod Misuse
 pub mod Order
+pub mod Output
 pub mod Quoted
 pub mod Replace
 pub mod Salt

@@ -2,17 +2,19 @@
 //! The text of a new password in the form of another system: made and written.
 
 ghost use Rattle.std.specs.Prelude.{◌≡◌, ◌↔◌, ◌⊎◌, ◌++◌, ℕ, List, [], ◌∷◌, false, length};
-ghost use Rattle.std.specs.Prelude.{IfErr, IfOk, IfSome, IsErrOf, IsNone, IsTrue, OnOk};
+ghost use Rattle.std.specs.Prelude.{IfErr, IfOk, IfSome, IsErrOf, IsNone, IsTrue, OnErr, OnOk};
 ghost use Rattle.std.specs.Int.NonZero.{non_zero_u32_get};
 ghost use Rattle.std.specs.Io.KnownBytes.{Appends};
 ghost use Rattle.ring_password_hash.specs.Scheme.{kept_len_of};
 ghost use Rattle.ring_password_hash.specs.Stored.{IsStored, can_keep, new_parts, parts_of, text_of};
 ghost use Rattle.ring_passwords.specs.Encode.{IsNotWritten, IsPrepared, advised, salt_of};
 ghost use Rattle.ring_passwords.specs.Failure.{IsOfSystem, status_of};
+ghost use Rattle.ring_passwords.specs.Output.{AppendsFront};
 ghost use Rattle.ring_passwords.specs.Salt.{IsDrawn};
 ghost use Rattle.ring_passwords.specs.declared.failure.Step.TheVariants.{WriteText};
 
 use crate::failure::{Failure, Step};
+use crate::output::write_whole;
 use crate::password::LINE_FEED;
 use crate::salt::salt;
 use crate::steps::Steps;
@@ -92,13 +94,15 @@ fn write_text<W: Write>(stored: &Stored, writer: &mut W) -> Result<(), Failure>
     requires { IsStored stored.now }
     ensures written { OnOk result (Appends (W.contents writer.old) (W.contents writer.new)
         (text_of (parts_of stored.now) ++ 10 ∷ [])) }
+    ensures cut { OnErr result (AppendsFront (W.contents writer.old) (W.contents writer.new)
+        (text_of (parts_of stored.now) ++ 10 ∷ [])) }
     ensures failure { IfErr result (λ failure. IsOfSystem WriteText failure) }
 {
     let mut line = [LINE_FEED; MAX_TEXT_LEN + 1];
     let Ok(len) = stored.write_to(&mut line) else {
         unreachable!() // A text has at most MAX_TEXT_LEN bytes.
     };
-    match writer.write_all(&line[..len + 1]) {
+    match write_whole(writer, &line[..len + 1]) {
         Ok(()) => Ok(()),
         Err(error) => Err(Failure::System(Step::WriteText, error)),
     }
@@ -123,6 +127,9 @@ pub fn encode<W: Write>(
         ⊎ (failure ≡ Failure.TooLong) ⊎ IsOfSystem WriteText failure) }
     ensures unchanged { IfErr result (λ failure. ¬ (IsOfSystem WriteText failure)
         → W.contents writer.new ≡ W.contents writer.old) }
+    ensures cut { IfErr result (λ failure. IsOfSystem WriteText failure
+        → AppendsFront (W.contents writer.old) (W.contents writer.new)
+        (text_of (new_parts scheme password.now (salt_of scheme random) iterations) ++ 10 ∷ [])) }
 {
     let stored = new_value(scheme, password, iterations, random)?;
     write_text(&stored, writer)
@@ -144,6 +151,10 @@ pub fn encode_salted<S: Steps, W: Write>(
         (S.events steps.new) scheme password.now failure) }
     ensures unchanged { IfErr result (λ failure. ¬ (IsOfSystem WriteText failure)
         → W.contents writer.new ≡ W.contents writer.old) }
+    ensures cut { IfErr result (λ failure. IsOfSystem WriteText failure → (salt : List ℕ)
+        × IsDrawn (S.events steps.old) (S.events steps.new) salt
+        × AppendsFront (W.contents writer.old) (W.contents writer.new)
+        (text_of (new_parts scheme password.now (salt_of scheme salt) iterations) ++ 10 ∷ [])) }
     ensures status { IfErr result (λ failure. status_of failure ≡ 2) }
 {
     let random = salt(steps)?;

@@ -55,6 +55,7 @@ mod lock;
 mod memory;
 mod misuse;
 mod order;
+mod output;
 mod password;
 mod quoted;
 mod regular;

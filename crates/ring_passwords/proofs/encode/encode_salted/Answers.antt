@@ -10,7 +10,8 @@ use Rattle.ring_passwords.specs.Failure.{IsOfSystem}
 use Rattle.ring_passwords.specs.Salt.{IsDrawn, IsNotDrawn}
 use Rattle.ring_passwords.specs.declared.failure.Failure.{Failure}
 use Rattle.ring_passwords.specs.declared.failure.Failure.TheVariants as failure
-use Rattle.ring_passwords.specs.declared.failure.Step.TheVariants.{WriteText}
+use Rattle.ring_passwords.specs.declared.failure.Step.TheVariants.{Salt, WriteText}
+use Rattle.ring_passwords.proofs.Events.{exits_with, if_err_weaker}
 use Rattle.ring_passwords.proofs.encode.encode_salted.Goals as goal
 
 not_encoded : (k : Scheme) (password random : List ℕ) (r : Result (Unit {0}) Failure)
@@ -50,3 +51,18 @@ returns-clause-refused g c =
     let e = c.encode.ensures in
     not_written k password _ c.encode.result c.in_ok-random.ensures.ok
     (not_encoded k password _ c.encode.result e.failure e.unprepared.0 e.too_long)
+
+not_drawn_not_cut : (failed : Failure) → IsOfSystem Salt failed → ¬ IsOfSystem WriteText failed
+not_drawn_not_cut failed (other, is) (error, cut) = absurd cc
+
+pub returns-in_err-random-clause-cut : goal.returns-in_err-random-clause-cut
+returns-in_err-random-clause-cut g c =
+    exits_with _ c.from_residual.result c.from_residual.ensures.1
+    (λ failed is. λ cut.
+    absurd (not_drawn_not_cut failed (rw is c.in_err-random.ensures.refused.why) cut))
+
+pub returns-clause-cut : goal.returns-clause-cut
+returns-clause-cut g c =
+    if_err_weaker c.encode.result
+    (λ failed cut. λ is. (c.in_ok-random.random, c.in_ok-random.ensures.ok, cut is))
+    c.encode.ensures.cut

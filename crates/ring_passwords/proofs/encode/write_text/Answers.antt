@@ -4,6 +4,7 @@ use Rattle.std.proofs.Common.{length, replicate, subst, take}
 use Rattle.std.proofs.Math.Seq.{take-append-add}
 use Rattle.std.proofs.lemmas.List.{drop-replicate, take-replicate}
 use Rattle.std.specs.Io.KnownBytes.{Appends}
+use Rattle.ring_passwords.specs.Output.{AppendsFront}
 use Rattle.ring_passwords.proofs.encode.write_text.Goals as goal
 
 -- a text in a buffer of line feeds, and one of them
@@ -15,11 +16,18 @@ line_at text new len room is within same =
     ∙ take-append-add text (replicate (room - len) 10) 1
     ∙ ap (λ (l : List ℕ). text ++ l) (take-replicate 1 (room - len) 10 (omega (arith, within)))
 
-pub returns-in-Ok-write_all-clause-written : goal.returns-in-Ok-write_all-clause-written
-returns-in-Ok-write_all-clause-written g c =
+pub returns-in-Ok-write_whole-clause-written : goal.returns-in-Ok-write_whole-clause-written
+returns-in-Ok-write_whole-clause-written g c =
     let contents = g.W.Write.contents in
     let wrote = c.in-Ok.ensures in
-    let all = c.in-Ok-write_all.ensures.bytes in
-    subst (Appends (contents c.args.writer.now) (contents c.write_all.new.self))
+    subst (Appends (contents c.args.writer.now) (contents c.write_whole.new.writer))
     (line_at _ _ c.in-Ok.len 1025 wrote.0 (omega (arith, wrote.0, c.requires.text.within)) wrote.1)
-    all
+    c.in-Ok-write_whole.ensures.ok
+
+pub returns-in-Err-clause-cut : goal.returns-in-Err-clause-cut
+returns-in-Err-clause-cut g c =
+    let contents = g.W.Write.contents in
+    let wrote = c.in-Ok.ensures in
+    subst (AppendsFront (contents c.args.writer.now) (contents c.write_whole.new.writer))
+    (line_at _ _ c.in-Ok.len 1025 wrote.0 (omega (arith, wrote.0, c.requires.text.within)) wrote.1)
+    c.in-Err.ensures.refused

@@ -72,13 +72,13 @@ def functions(text):
         yield Function(owner, it.group(1), text[opening:body], text[body:end], it.start(), end)
 
 
-@functools.cache
 def files_of_tests(texts):
     """The names of the files of the modules of tests that these texts of a crate declare."""
     declared = r"#\[cfg\(test\)\]\n(?:pub )?mod (\w+);"
     return {f"{name}.rt" for text in texts for name in re.findall(declared, text)}
 
 
+@functools.cache
 def without_clauses(text):
     """The text without comments, and without contracts and ghost items."""
     text = re.sub(r"//[^\n]*", "", text)

@@ -141,6 +141,7 @@ LINES = {
         "os_error_kind Interrupted": "the kind of a system's number; the one tried again",
         "append_known Appends": "known bytes and further ones; known bytes grow by these",
         "AppendsText": "a text grows by these",
+        "StartsWith": "the second list is a front of the first",
         "Consumes Keeps IsAtEnd": "known bytes lose these in front; stay; are none",
         "ReadConsumes ReadsAtMost": "a read took what it gave; gave at most its room",
         "prepend_known": "known bytes with these before them",

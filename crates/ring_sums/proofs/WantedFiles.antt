@@ -137,13 +137,6 @@ module _ {R : Type 0} {remaining : R → Option (List ℕ)} {fails_with : R → 
         is = next file given.is.0;
       }
 
-  -- what is said of the files that are done, by what is said of them already
-  pub done-with : {new : Outcomes R} {Before After : List (Wanted R) → Type 0}
-      (so : AreDone remaining fails_with wanted new Before) → After so.done
-      → AreDone remaining fails_with wanted new After
-  done-with so is =
-      record { done = so.done; rest = so.rest; whole = so.whole; to_come = so.to_come; is = is }
-
   -- where there is no outcome all are
   pub done-none : {new : Outcomes R} (done rest : List (Wanted R)) → wanted ≡ done ++ rest
       → FileIsGiven remaining fails_with rest None new → length done ≡ length wanted

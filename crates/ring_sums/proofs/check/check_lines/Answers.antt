@@ -17,7 +17,7 @@ use Rattle.ring_sums.proofs.CheckedLines.{files-many, findings-few, findings-man
 use Rattle.ring_sums.proofs.CheckedParts.{checked-none}
 use Rattle.ring_sums.proofs.Listed.{apart-kept, apart-next, written-kept}
 use Rattle.ring_sums.proofs.Listed.{written-next}
-use Rattle.ring_sums.proofs.WantedFiles.{done-all, done-more, done-none, done-with}
+use Rattle.ring_sums.proofs.WantedFiles.{done-all, done-more, done-none}
 use Rattle.ring_sums.proofs.check.check_lines.Goals as goal
 use Rattle.ring_sums.proofs.check.check_lines.Goals.{in-Bad+in_ok-warn_of_line-in-Bad}
 use Rattle.ring_sums.proofs.check.check_lines.Goals.{in-Entry+in-Ok+in-Some+in_ok-answer-in-Entry}
@@ -36,11 +36,17 @@ loop-line-init g c = λ files of to_come.
 pub returns-then-has_failed : goal.returns-then-has_failed
 returns-then-has_failed g c = λ files of to_come.
     let so = c.loop-line.invariant files of to_come in
-    done-with so (
-      c.loop-line.line-index,
-      so.is,
-      λ none. absurd (true≢false (sym c.if-has_failed.true ∙ c.has_failed.ensures.1 none)),
-    )
+    record {
+      done = so.done;
+      rest = so.rest;
+      whole = so.whole;
+      to_come = so.to_come;
+      is = (
+        c.loop-line.line-index,
+        so.is,
+        λ none. absurd (true≢false (sym c.if-has_failed.true ∙ c.has_failed.ensures.1 none)),
+      );
+    }
 
 pub returns-in_default-next : goal.returns-in_default-next
 returns-in_default-next g c = λ files of to_come.
@@ -149,8 +155,14 @@ returns g c = λ files of to_come.
       ap (λ z. length (entries_of z)) whole,
       files-many (entries_of c.args.lines.now) files of,
     ) in
-    done-with so (
-      c.loop-line.line-index,
-      so.is,
-      λ none. (whole, done-all so.done so.rest so.whole many),
-    )
+    record {
+      done = so.done;
+      rest = so.rest;
+      whole = so.whole;
+      to_come = so.to_come;
+      is = (
+        c.loop-line.line-index,
+        so.is,
+        λ none. (whole, done-all so.done so.rest so.whole many),
+      );
+    }

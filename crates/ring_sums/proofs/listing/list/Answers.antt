@@ -8,7 +8,7 @@ use Rattle.ring_sums.specs.declared.outcome.Outcome.{Outcome}
 use Rattle.ring_sums.specs.declared.outcomes.Wanted.{Wanted}
 use Rattle.ring_sums.proofs.Listed.{apart-none, each-more, fine-more, lines-more, written-none}
 use Rattle.ring_sums.proofs.Listed.{zip-none}
-use Rattle.ring_sums.proofs.WantedFiles.{done-all, done-more, done-none, done-with}
+use Rattle.ring_sums.proofs.WantedFiles.{done-all, done-more, done-none}
 use Rattle.ring_sums.proofs.listing.list.Goals as goal
 
 pub loop-name-init : goal.loop-name-init
@@ -33,10 +33,16 @@ loop-name-init g c = λ files to_come same.
 pub returns-then-has_failed : goal.returns-then-has_failed
 returns-then-has_failed g c = λ files to_come same.
     let so = c.loop-name.invariant files to_come same in
-    done-with so (
-      so.is.1,
-      λ none. absurd (true≢false (sym c.if-has_failed.true ∙ c.has_failed.ensures.1 none)),
-    )
+    record {
+      done = so.done;
+      rest = so.rest;
+      whole = so.whole;
+      to_come = so.to_come;
+      is = (
+        so.is.1,
+        λ none. absurd (true≢false (sym c.if-has_failed.true ∙ c.has_failed.ensures.1 none)),
+      );
+    }
 
 pub returns-in_default-next : goal.returns-in_default-next
 returns-in_default-next g c = λ files to_come same.
@@ -82,4 +88,10 @@ returns g c = λ files to_come same.
     let so = c.loop-name.invariant files to_come same in
     let many : length so.done ≡ length files =
     omega (arith, so.is.0, c.loop-name-test.false, c.loop-name.auto.name-index-end, same) in
-    done-with so (so.is.1, λ none. done-all so.done so.rest so.whole many)
+    record {
+      done = so.done;
+      rest = so.rest;
+      whole = so.whole;
+      to_come = so.to_come;
+      is = (so.is.1, λ none. done-all so.done so.rest so.whole many);
+    }
